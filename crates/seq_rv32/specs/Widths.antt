@@ -1,0 +1,12 @@
+-- Words of a port.
+use Rattle.std.specs.Prelude.{◌≡◌, ℕ, ◌⊎◌, Bool, true, false}
+use Rattle.seq_rv32.specs.declared.port.Admit.{Admit}
+use Rattle.seq_rv32.specs.declared.port.Admit.TheVariants.{Fits, Outside, Full}
+
+abbrev pub IsWidth : ℕ → Type 0
+IsWidth w = (w ≡ 1) ⊎ ((w ≡ 2) ⊎ (w ≡ 4))
+
+abbrev pub is_outside : Admit → Bool
+is_outside Fits = false
+is_outside Outside = true
+is_outside Full = false

@@ -1,0 +1,248 @@
+//! The plan of an instruction.
+ghost use Rattle.std.specs.Prelude.{◌≡◌, ℕ, ◌%◌};
+ghost use Rattle.seq_isa.specs.Registers.{HasRegisters};
+ghost use Rattle.seq_isa.specs.Meaning.{outcome_of, outcome_at};
+ghost use Rattle.seq_rv32.specs.Effects.{effect_of, StoreFits, NamesRegister, applied, bytes_after, state_after};
+
+use crate::alu::{
+    divide, divide_unsigned, flag, is_less, multiply_high, multiply_high_mixed,
+    multiply_high_unsigned, remainder, remainder_unsigned, shift_signed,
+};
+use crate::effects::{
+    Effect, Extension, address, apply, branches, gives, jumps, loads, read, stores,
+};
+use crate::port::Port;
+use seq_isa::{Instr, decode};
+use seq_words::Regs;
+
+/// What an instruction would do.
+#[tactic(auto, unfolding(seq_isa::specs::Meaning::outcome_of))]
+pub fn execute<P: Port>(instr: Instr, regs: &Regs, port: &P) -> Effect
+    requires { HasRegisters instr }
+    ensures value { result ≡ effect_of (P.admission port.now) (outcome_of regs.now (P.bytes port.now) instr) }
+    ensures register { NamesRegister result }
+    ensures store { StoreFits (P.admission port.now) result }
+{
+    match instr {
+        Instr::Lui { rd, imm } => gives(regs, rd, imm << 12),
+        Instr::Auipc { rd, imm } => gives(regs, rd, regs.pc.wrapping_add(imm << 12)),
+        Instr::Jal { rd, offset } => jumps(regs, rd, regs.pc.wrapping_add(offset.cast_unsigned())),
+        Instr::Jalr { rd, rs1, imm } => {
+            let at = address(regs, rs1, imm);
+            jumps(regs, rd, at - at % 2)
+        }
+        Instr::Beq { rs1, rs2, offset } => branches(
+            regs,
+            read(regs, rs1) == read(regs, rs2),
+            offset,
+        ),
+        Instr::Bne { rs1, rs2, offset } => branches(
+            regs,
+            read(regs, rs1) != read(regs, rs2),
+            offset,
+        ),
+        Instr::Blt { rs1, rs2, offset } => branches(
+            regs,
+            is_less(read(regs, rs1), read(regs, rs2)),
+            offset,
+        ),
+        Instr::Bge { rs1, rs2, offset } => branches(
+            regs,
+            !is_less(read(regs, rs1), read(regs, rs2)),
+            offset,
+        ),
+        Instr::Bltu { rs1, rs2, offset } => branches(
+            regs,
+            read(regs, rs1) < read(regs, rs2),
+            offset,
+        ),
+        Instr::Bgeu { rs1, rs2, offset } => branches(
+            regs,
+            read(regs, rs1) >= read(regs, rs2),
+            offset,
+        ),
+        Instr::Lb { rd, rs1, imm } => loads(
+            regs,
+            port,
+            rd,
+            address(regs, rs1, imm),
+            1,
+            Extension::Byte,
+        ),
+        Instr::Lh { rd, rs1, imm } => loads(
+            regs,
+            port,
+            rd,
+            address(regs, rs1, imm),
+            2,
+            Extension::Half,
+        ),
+        Instr::Lw { rd, rs1, imm } => loads(
+            regs,
+            port,
+            rd,
+            address(regs, rs1, imm),
+            4,
+            Extension::Zero,
+        ),
+        Instr::Lbu { rd, rs1, imm } => loads(
+            regs,
+            port,
+            rd,
+            address(regs, rs1, imm),
+            1,
+            Extension::Zero,
+        ),
+        Instr::Lhu { rd, rs1, imm } => loads(
+            regs,
+            port,
+            rd,
+            address(regs, rs1, imm),
+            2,
+            Extension::Zero,
+        ),
+        Instr::Sb { rs1, rs2, imm } => stores(
+            regs,
+            port,
+            address(regs, rs1, imm),
+            1,
+            read(regs, rs2) & 0xff,
+        ),
+        Instr::Sh { rs1, rs2, imm } => stores(
+            regs,
+            port,
+            address(regs, rs1, imm),
+            2,
+            read(regs, rs2) & 0xffff,
+        ),
+        Instr::Sw { rs1, rs2, imm } => stores(
+            regs,
+            port,
+            address(regs, rs1, imm),
+            4,
+            read(regs, rs2),
+        ),
+        Instr::Addi { rd, rs1, imm } => gives(
+            regs,
+            rd,
+            read(regs, rs1).wrapping_add(imm.cast_unsigned()),
+        ),
+        Instr::Slti { rd, rs1, imm } => gives(regs, rd, flag(read(regs, rs1).cast_signed() < imm)),
+        Instr::Sltiu { rd, rs1, imm } => gives(
+            regs,
+            rd,
+            flag(read(regs, rs1) < imm.cast_unsigned()),
+        ),
+        Instr::Xori { rd, rs1, imm } => gives(regs, rd, read(regs, rs1) ^ imm.cast_unsigned()),
+        Instr::Ori { rd, rs1, imm } => gives(regs, rd, read(regs, rs1) | imm.cast_unsigned()),
+        Instr::Andi { rd, rs1, imm } => gives(regs, rd, read(regs, rs1) & imm.cast_unsigned()),
+        Instr::Slli { rd, rs1, amount } => gives(regs, rd, read(regs, rs1) << amount),
+        Instr::Srli { rd, rs1, amount } => gives(regs, rd, read(regs, rs1) >> amount),
+        Instr::Srai { rd, rs1, amount } => gives(
+            regs,
+            rd,
+            shift_signed(read(regs, rs1), amount as u32),
+        ),
+        Instr::Add { rd, rs1, rs2 } => gives(
+            regs,
+            rd,
+            read(regs, rs1).wrapping_add(read(regs, rs2)),
+        ),
+        Instr::Sub { rd, rs1, rs2 } => gives(
+            regs,
+            rd,
+            read(regs, rs1).wrapping_sub(read(regs, rs2)),
+        ),
+        Instr::Sll { rd, rs1, rs2 } => gives(regs, rd, read(regs, rs1) << (read(regs, rs2) % 32)),
+        Instr::Slt { rd, rs1, rs2 } => gives(
+            regs,
+            rd,
+            flag(is_less(read(regs, rs1), read(regs, rs2))),
+        ),
+        Instr::Sltu { rd, rs1, rs2 } => gives(regs, rd, flag(read(regs, rs1) < read(regs, rs2))),
+        Instr::Xor { rd, rs1, rs2 } => gives(regs, rd, read(regs, rs1) ^ read(regs, rs2)),
+        Instr::Srl { rd, rs1, rs2 } => gives(regs, rd, read(regs, rs1) >> (read(regs, rs2) % 32)),
+        Instr::Sra { rd, rs1, rs2 } => gives(
+            regs,
+            rd,
+            shift_signed(read(regs, rs1), read(regs, rs2) % 32),
+        ),
+        Instr::Or { rd, rs1, rs2 } => gives(regs, rd, read(regs, rs1) | read(regs, rs2)),
+        Instr::And { rd, rs1, rs2 } => gives(regs, rd, read(regs, rs1) & read(regs, rs2)),
+        Instr::Mul { rd, rs1, rs2 } => gives(
+            regs,
+            rd,
+            read(regs, rs1).wrapping_mul(read(regs, rs2)),
+        ),
+        Instr::Mulh { rd, rs1, rs2 } => gives(
+            regs,
+            rd,
+            multiply_high(read(regs, rs1), read(regs, rs2)),
+        ),
+        Instr::Mulhsu { rd, rs1, rs2 } => gives(
+            regs,
+            rd,
+            multiply_high_mixed(read(regs, rs1), read(regs, rs2)),
+        ),
+        Instr::Mulhu { rd, rs1, rs2 } => gives(
+            regs,
+            rd,
+            multiply_high_unsigned(read(regs, rs1), read(regs, rs2)),
+        ),
+        Instr::Div { rd, rs1, rs2 } => gives(regs, rd, divide(read(regs, rs1), read(regs, rs2))),
+        Instr::Divu { rd, rs1, rs2 } => gives(
+            regs,
+            rd,
+            divide_unsigned(read(regs, rs1), read(regs, rs2)),
+        ),
+        Instr::Rem { rd, rs1, rs2 } => gives(regs, rd, remainder(read(regs, rs1), read(regs, rs2))),
+        Instr::Remu { rd, rs1, rs2 } => gives(
+            regs,
+            rd,
+            remainder_unsigned(read(regs, rs1), read(regs, rs2)),
+        ),
+        Instr::Fence { word: _ } => Effect::Next {
+            wrote: None,
+            stored: None,
+            next: regs.pc.wrapping_add(4),
+        },
+        Instr::Ecall => Effect::Call,
+        Instr::Ebreak => Effect::Trap(3),
+    }
+}
+
+/// What the instruction at pc would do.
+pub fn plan<P: Port>(regs: &Regs, port: &P) -> Effect
+    requires { regs.now.pc % 4 ≡ 0 }
+    ensures value { result ≡ effect_of (P.admission port.now) (outcome_at regs.now (P.bytes port.now)) }
+    ensures register { NamesRegister result }
+    ensures store { StoreFits (P.admission port.now) result }
+{
+    match port.fetch(regs.pc) {
+        None => Effect::Trap(1),
+        Some(word) => match decode(word) {
+            None => Effect::Trap(2),
+            Some(instr) => execute(instr, regs, port),
+        },
+    }
+}
+
+/// Takes the instruction at pc.
+pub fn exec<P: Port>(regs: &mut Regs, port: &mut P) -> Effect
+    requires { regs.old.pc % 4 ≡ 0 }
+    ensures value { result ≡ effect_of (P.admission port.old) (outcome_at regs.old (P.bytes port.old)) }
+    ensures regs { regs.new ≡ applied regs.old result }
+    ensures bytes { P.bytes port.new ≡ bytes_after (P.bytes port.old) result }
+    ensures state { port.new ≡ state_after P.after_store port.old result }
+{
+    let effect = plan(regs, port);
+    apply(regs, &effect);
+    if let Effect::Next {
+        stored: Some((at, width, value)),
+        ..
+    } = effect
+    {
+        port.store(at, width, value);
+    }
+    effect
+}

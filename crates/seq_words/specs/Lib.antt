@@ -1,0 +1,3 @@
+pub mod Lending
+pub mod Masks
+pub mod Description
