@@ -1,5 +1,5 @@
 -- What an instruction does, on numbers modulo 2 ^ 32 and a memory that is a function from addresses to bytes.
-use Rattle.std.specs.Prelude.{ℕ, zero, suc, ◌+◌, ◌-◌, ◌*◌, ◌/◌, ◌%◌, ◌^◌, Bool, true, false, not, ℤ, pos, ◌*ℤ◌, int_lt, int_div, int_rem, if◌then◌else◌, nat_lt, nat_le, ◌==◌, ◌&&◌, slice_index, Option, Some, None, option_and_then, option_map, bit_and, bit_or, bit_xor}
+use Rattle.std.specs.Prelude.{ℕ, zero, suc, ◌+◌, ◌-◌, ◌*◌, ◌/◌, ◌%◌, ◌^◌, Bool, true, false, not, ℤ, pos, ◌*ℤ◌, int_lt, int_div, int_rem, if◌then◌else◌, nat_lt, nat_le, ◌==◌, ◌&&◌, slice_index, slice_set, Option, Some, None, option_and_then, option_map, bit_and, bit_or, bit_xor}
 use Rattle.std.specs.Int.{cast_signed, cast_unsigned, w32, w64, int_shr, byte_at}
 use Rattle.seq_isa.specs.Decoded.{decode_of}
 use Rattle.seq_isa.specs.declared.instr.Instr.{Instr}
@@ -39,6 +39,11 @@ bits_of z = cast_unsigned w32 z
 
 abbrev pub following : Regs → ℕ
 following r = (r.pc + 4) % 2 ^ 32
+
+-- the registers after an instruction that wrote a register, if it did, and goes on at an address
+abbrev pub registers_after : Regs → Option (ℕ × ℕ) → ℕ → Regs
+registers_after r (Some w) next = record { x = slice_set r.x w.0 w.1; pc = next }
+registers_after r None next = record r { pc = next }
 
 abbrev pub written : ℕ → ℕ → Option (ℕ × ℕ)
 written rd value = if rd == 0 then None else Some (rd, value)

@@ -1,0 +1,4 @@
+pub mod Seen
+pub mod Gathered
+pub mod Puts
+pub mod Stores

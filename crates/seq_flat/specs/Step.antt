@@ -1,0 +1,66 @@
+-- One step of a process: an instruction, a kernel call or a trap.
+use Rattle.std.specs.Prelude.{ℕ, if◌then◌else◌, nat_lt, List, Option, Some, None, Result, Ok, Err, length, IsOk}
+use Rattle.seq_words.specs.declared.description.MachineDesc.{MachineDesc}
+use Rattle.seq_isa.specs.Meaning.{Outcome, moves, call, trap, outcome_at, register, registers_after}
+use Rattle.seq_flat.specs.declared.inputs.LineInput.{LineInput}
+use Rattle.seq_flat.specs.declared.state.End.{End}
+use Rattle.seq_flat.specs.declared.state.End.TheVariants.{Live, Exited, Trapped}
+use Rattle.seq_flat.specs.declared.state.SegmentState.{SegmentState}
+use Rattle.seq_flat.specs.declared.state.FlatState.{FlatState}
+use Rattle.seq_flat.specs.declared.state.Rights.{Rights}
+use Rattle.seq_flat.specs.declared.state.Waits.{Waits}
+use Rattle.seq_flat.specs.declared.state.Waits.TheVariants.{Ended}
+use Rattle.seq_flat.specs.State.{process_at, rights_at, rights_of, with_process}
+use Rattle.seq_flat.specs.Memory.{seen, bytes_after, segments_after}
+use Rattle.seq_flat.specs.Calls.{ended, kernel_call}
+
+-- private bytes and segments after the store of an instruction, if it makes one
+abbrev pub bytes_stored : List ℕ → Option (ℕ × ℕ × ℕ) → List ℕ
+bytes_stored bytes (Some s) = bytes_after bytes s.0 s.1 s.2
+bytes_stored bytes None = bytes
+
+abbrev pub segments_stored : List SegmentState → Option (ℕ × ℕ × ℕ) → List SegmentState
+segments_stored segments (Some s) = segments_after segments s.0 s.1 s.2
+segments_stored segments None = segments
+
+-- process p after an instruction that wrote a register, stored bytes, and goes on at an address
+unfoldable pub moved : FlatState → ℕ → Option (ℕ × ℕ) → Option (ℕ × ℕ × ℕ) → ℕ → FlatState
+moved f p wrote store next =
+    let q = process_at f p in
+    record (with_process f p (record q { regs = registers_after q.regs wrote next; bytes = bytes_stored q.bytes store })) { segments = segments_stored f.segments store }
+
+-- what the instruction at its pc does, in the memory that process p sees
+abbrev pub outcome : FlatState → ℕ → Outcome
+outcome f p = outcome_at (process_at f p).regs (seen (process_at f p).bytes f.segments p)
+
+abbrev pub performed : Rights → List LineInput → FlatState → ℕ → Outcome → Result FlatState Waits
+performed rights inputs f p (moves wrote store next) = Ok (moved f p wrote store next)
+performed rights inputs f p call = kernel_call rights inputs f p (register (process_at f p).regs 17)
+performed rights inputs f p (trap cause) = Ok (ended f p (Trapped cause (process_at f p).regs.pc))
+
+abbrev pub step_by_end : Rights → List LineInput → FlatState → ℕ → End → Result FlatState Waits
+step_by_end rights inputs f p Live = performed rights inputs f p (outcome f p)
+step_by_end rights inputs f p (Exited code) = Err Ended
+step_by_end rights inputs f p (Trapped cause pc) = Err Ended
+
+-- A step of process p: the state after it, or what the process waits for.
+unfoldable pub step_or_wait : List Rights → List LineInput → FlatState → ℕ → Result FlatState Waits
+step_or_wait rights inputs f p =
+    if nat_lt p (length f.processes) then step_by_end (rights_at rights p) inputs f p (process_at f p).end
+    else Err Ended
+
+-- the state after a step, and none where the process isn't enabled
+abbrev pub ok_of : Result FlatState Waits → Option FlatState
+ok_of (Ok f) = Some f
+ok_of (Err w) = None
+
+abbrev pub step : MachineDesc → List LineInput → FlatState → ℕ → Option FlatState
+step d inputs f p = ok_of (step_or_wait (rights_of d) inputs f p)
+
+-- process p can take a step
+abbrev pub IsEnabled : MachineDesc → List LineInput → FlatState → ℕ → Type 0
+IsEnabled d inputs f p = IsOk (step_or_wait (rights_of d) inputs f p)
+
+-- no process can take a step
+abbrev pub IsQuiet : MachineDesc → List LineInput → FlatState → Type 0
+IsQuiet d inputs f = (p : ℕ) → ¬ IsEnabled d inputs f p

@@ -1,0 +1,10 @@
+//! The flat machine: what the processes of a description do when nothing fails. Each has its registers and its private
+//! bytes, segments are shared, and an order of steps is all that a run is given.
+#![tactic(auto)]
+
+mod inputs;
+mod memory;
+mod state;
+
+pub use inputs::{Inputs, LineInput};
+pub use state::{End, FlatState, LineState, ProcessState, Rights, SegmentState, Waits};
