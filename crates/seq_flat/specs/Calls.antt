@@ -70,7 +70,7 @@ read rights inputs f p l =
     else read_next f p l (input_at inputs l) (slice_get (input_at inputs l).bytes (line_at f l).read)
 
 -- bytes are added to a line's output, while there is room for them
-abbrev pub written : FlatState → ℕ → ℕ → Option (List ℕ) → FlatState
+unfoldable pub written : FlatState → ℕ → ℕ → Option (List ℕ) → FlatState
 written f p l None = answered f p (minus 8)
 written f p l (Some bytes) =
     if nat_lt 1048576 (length (line_at f l).output + length bytes) then answered f p (minus 5)

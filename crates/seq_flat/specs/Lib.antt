@@ -3,3 +3,5 @@ pub mod Memory
 pub mod Calls
 pub mod Step
 pub mod Run
+pub mod Whole
+pub mod Effects

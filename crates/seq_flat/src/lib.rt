@@ -2,9 +2,13 @@
 //! bytes, segments are shared, and an order of steps is all that a run is given.
 #![tactic(auto)]
 
+mod calls;
 mod inputs;
+mod machine;
 mod memory;
 mod state;
+mod steps;
 
 pub use inputs::{Inputs, LineInput};
-pub use state::{End, FlatState, LineState, ProcessState, Rights, SegmentState, Waits};
+pub use machine::Flat;
+pub use state::{End, FlatState, LineState, ProcessState, Rights, SegmentState, StepError, Waits};

@@ -23,7 +23,7 @@ struct Place<'a> {
 }
 
 // Whether process `pid` is the owner.
-fn is_owner(pid: Pid, owner: Option<Pid>) -> bool
+pub fn is_owner(pid: Pid, owner: Option<Pid>) -> bool
     ensures { result ≡ is_owner pid.0 owner }
 {
     match owner {

@@ -63,3 +63,11 @@ pub enum Waits {
     /// It has ended, or the description has no such process.
     Ended,
 }
+
+/// Why a step wasn't made.
+#[derive(Clone, Copy, Debug, PartialEq, Eq)]
+pub enum StepError {
+    /// The process isn't enabled.
+    Waits(Waits),
+    NoMemory,
+}

@@ -1,0 +1,7 @@
+use Rattle.std.proofs.Common.{subst, sym}
+use Rattle.seq_flat.specs.Whole.{IsWhole}
+use Rattle.seq_flat.proofs.Wholes.{start_whole}
+use Rattle.seq_flat.proofs.machine.Flat.new.Goals as goal
+
+pub invariant_of-result : goal.invariant_of-result
+invariant_of-result c = record { whole = subst IsWhole (sym c.in_ok-state.ensures) (start_whole c.args.desc.now c.requires) }
