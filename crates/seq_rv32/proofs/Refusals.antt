@@ -1,5 +1,5 @@
 -- Where an effect is Full.
-use Rattle.std.proofs.Common.{◌≡◌, ℕ, Option, Some, None, ◌↔◌, refl, sym, ◌∙◌, subst}
+use Rattle.std.proofs.Common.{◌≡◌, ℕ, Option, Some, None, ◌↔◌, refl, sym, ◌∙◌}
 use Rattle.seq_isa.specs.Meaning.{Outcome, moves, call, trap}
 use Rattle.seq_rv32.specs.declared.port.Admit.{Admit}
 use Rattle.seq_rv32.specs.declared.port.Admit.TheVariants.{Fits, Outside, Full}
