@@ -1,22 +1,24 @@
--- The fields of an instruction that has a word.
-use Rattle.std.specs.Prelude.{◌≡◌, ℕ, ◌-◌, ◌<◌, ◌%◌, ◌/◌, ◌≤ℤ◌, ℤ, pos, neg_ℤ, int_rem}
+-- The instructions that have a word: each field is in the range that its place in the word gives it.
+use Rattle.std.specs.Prelude.{◌≡◌, ℕ, ◌-◌, ◌^◌, ◌<◌, ◌≤ℤ◌, ℤ, pos, neg_ℤ, int_rem}
+use Rattle.seq_isa.specs.Table.{opcode_of, funct3_of}
 use Rattle.seq_isa.specs.declared.instr.Instr.{Instr}
 use Rattle.seq_isa.specs.declared.instr.Instr.TheVariants.{Lui, Auipc, Jal, Jalr, Beq, Bne, Blt, Bge, Bltu, Bgeu, Lb, Lh, Lw, Lbu, Lhu, Sb, Sh, Sw, Addi, Slti, Sltiu, Xori, Ori, Andi, Slli, Srli, Srai, Add, Sub, Sll, Slt, Sltu, Xor, Srl, Sra, Or, And, Mul, Mulh, Mulhsu, Mulhu, Div, Divu, Rem, Remu, Fence, Ecall, Ebreak}
 
--- an immediate of 12 bits
+-- an immediate of 12 bits, from -2048 to 2047
 pub record IsImmediate (z : ℤ) : Type 0 where
   pub low : neg_ℤ (pos 2048) ≤ℤ z
   pub high : z ≤ℤ pos 2047
 
--- an even offset from -half to half - 2
+-- an even offset from -half to half - 2, as a branch and a jump have them
 pub record IsOffset (half : ℕ) (z : ℤ) : Type 0 where
   pub low : neg_ℤ (pos half) ≤ℤ z
   pub high : z ≤ℤ pos (half - 2)
   pub even : int_rem z (pos 2) ≡ pos 0
 
+-- the registers are below 32, and each immediate, offset or amount is in its range; a fence is a word of FENCE
 abbrev pub InRange : Instr → Type 0
-InRange (Lui rd imm) = (rd < 32) × (imm < 1048576)
-InRange (Auipc rd imm) = (rd < 32) × (imm < 1048576)
+InRange (Lui rd imm) = (rd < 32) × (imm < 2 ^ 20)
+InRange (Auipc rd imm) = (rd < 32) × (imm < 2 ^ 20)
 InRange (Jal rd offset) = (rd < 32) × IsOffset 1048576 offset
 InRange (Jalr rd rs1 imm) = (rd < 32) × (rs1 < 32) × IsImmediate imm
 InRange (Beq rs1 rs2 offset) = (rs1 < 32) × (rs2 < 32) × IsOffset 4096 offset
@@ -60,6 +62,6 @@ InRange (Div rd rs1 rs2) = (rd < 32) × (rs1 < 32) × (rs2 < 32)
 InRange (Divu rd rs1 rs2) = (rd < 32) × (rs1 < 32) × (rs2 < 32)
 InRange (Rem rd rs1 rs2) = (rd < 32) × (rs1 < 32) × (rs2 < 32)
 InRange (Remu rd rs1 rs2) = (rd < 32) × (rs1 < 32) × (rs2 < 32)
-InRange (Fence word) = (word % 128 ≡ 15) × (word / 4096 % 8 ≡ 0)
+InRange (Fence word) = (opcode_of word ≡ 0b0001111) × (funct3_of word ≡ 0b000) × (word < 2 ^ 32)
 InRange Ecall = Unit {0}
 InRange Ebreak = Unit {0}

@@ -1,15 +1,16 @@
 //! From words to instructions.
-ghost use Rattle.std.specs.Prelude.{◌≡◌, ℕ, ◌+◌, ◌*◌, ◌/◌, ◌%◌, ◌^◌, ◌<◌, ◌≤◌, IfSome, IfNone, None};
-ghost use Rattle.seq_isa.specs.Table.{StandsFor, opcode_of, rd_of, funct3_of, rs1_of, rs2_of, funct7_of, sign_extended, i_immediate, s_immediate, b_immediate, j_immediate};
-ghost use Rattle.seq_isa.specs.Registers.{HasRegisters};
-ghost use Rattle.seq_isa.specs.Decoded.{branch_of, load_of, store_of, immediate_of, shift_of, register_of, decode_of};
+ghost use Rattle.std.specs.Prelude.{◌≡◌, ℕ, ◌+◌, ◌*◌, ◌/◌, ◌%◌, ◌^◌, ◌<◌, ◌≤◌, ◌↔◌, IfSome, IsNone, Some, None};
+ghost use Rattle.seq_isa.specs.Table.{StandsFor, sign_extended, i_immediate, s_immediate, b_immediate, j_immediate};
+ghost use Rattle.seq_isa.specs.InRange.{InRange};
+ghost use Rattle.seq_isa.specs.Decoded.{branch_of, load_of, store_of, immediate_of, shift_of, base_of, alternate_of, multiply_of, register_of, system_of, decode_of};
 
 use crate::Instr;
-use crate::parts::{Parts, split};
+use crate::fields::{Fields, split};
+use crate::opcodes::{AUIPC, BRANCH, JAL, JALR, LOAD, LUI, MISC_MEM, OP, OP_IMM, STORE, SYSTEM};
 
 fn sign_extend_12(bits: u32) -> i32
     requires { bits < 4096 }
-    ensures { result ≡ sign_extended 2048 bits }
+    ensures { result ≡ sign_extended 12 bits }
 {
     if bits < 2048 {
         bits as i32
@@ -20,7 +21,7 @@ fn sign_extend_12(bits: u32) -> i32
 
 fn sign_extend_13(bits: u32) -> i32
     requires { bits < 8192 }
-    ensures { result ≡ sign_extended 4096 bits }
+    ensures { result ≡ sign_extended 13 bits }
 {
     if bits < 4096 {
         bits as i32
@@ -31,7 +32,7 @@ fn sign_extend_13(bits: u32) -> i32
 
 fn sign_extend_21(bits: u32) -> i32
     requires { bits < 2097152 }
-    ensures { result ≡ sign_extended 1048576 bits }
+    ensures { result ≡ sign_extended 21 bits }
 {
     if bits < 1048576 {
         bits as i32
@@ -72,111 +73,145 @@ fn j_immediate(word: u32) -> i32
 
 #[tactic(auto, unfolding(crate::specs::Decoded::branch_of))]
 fn branch(funct3: u8, rs1: u8, rs2: u8, offset: i32) -> Option<Instr>
-    ensures value { result ≡ branch_of funct3 rs1 rs2 offset }
-    ensures found { (w : _) → opcode_of w ≡ 99 → funct3 ≡ funct3_of w → rs1 ≡ rs1_of w → rs2 ≡ rs2_of w → offset ≡ b_immediate w → IfSome result (StandsFor w) }
+    ensures { result ≡ branch_of funct3 rs1 rs2 offset }
 {
     match funct3 {
-        0 => Some(Instr::Beq { rs1, rs2, offset }),
-        1 => Some(Instr::Bne { rs1, rs2, offset }),
-        4 => Some(Instr::Blt { rs1, rs2, offset }),
-        5 => Some(Instr::Bge { rs1, rs2, offset }),
-        6 => Some(Instr::Bltu { rs1, rs2, offset }),
-        7 => Some(Instr::Bgeu { rs1, rs2, offset }),
+        0b000 => Some(Instr::Beq { rs1, rs2, offset }),
+        0b001 => Some(Instr::Bne { rs1, rs2, offset }),
+        0b100 => Some(Instr::Blt { rs1, rs2, offset }),
+        0b101 => Some(Instr::Bge { rs1, rs2, offset }),
+        0b110 => Some(Instr::Bltu { rs1, rs2, offset }),
+        0b111 => Some(Instr::Bgeu { rs1, rs2, offset }),
         _ => None,
     }
 }
 
 #[tactic(auto, unfolding(crate::specs::Decoded::load_of))]
 fn load(funct3: u8, rd: u8, rs1: u8, imm: i32) -> Option<Instr>
-    ensures value { result ≡ load_of funct3 rd rs1 imm }
-    ensures found { (w : _) → opcode_of w ≡ 3 → funct3 ≡ funct3_of w → rd ≡ rd_of w → rs1 ≡ rs1_of w → imm ≡ i_immediate w → IfSome result (StandsFor w) }
+    ensures { result ≡ load_of funct3 rd rs1 imm }
 {
     match funct3 {
-        0 => Some(Instr::Lb { rd, rs1, imm }),
-        1 => Some(Instr::Lh { rd, rs1, imm }),
-        2 => Some(Instr::Lw { rd, rs1, imm }),
-        4 => Some(Instr::Lbu { rd, rs1, imm }),
-        5 => Some(Instr::Lhu { rd, rs1, imm }),
+        0b000 => Some(Instr::Lb { rd, rs1, imm }),
+        0b001 => Some(Instr::Lh { rd, rs1, imm }),
+        0b010 => Some(Instr::Lw { rd, rs1, imm }),
+        0b100 => Some(Instr::Lbu { rd, rs1, imm }),
+        0b101 => Some(Instr::Lhu { rd, rs1, imm }),
         _ => None,
     }
 }
 
 #[tactic(auto, unfolding(crate::specs::Decoded::store_of))]
 fn store(funct3: u8, rs1: u8, rs2: u8, imm: i32) -> Option<Instr>
-    ensures value { result ≡ store_of funct3 rs1 rs2 imm }
-    ensures found { (w : _) → opcode_of w ≡ 35 → funct3 ≡ funct3_of w → rs1 ≡ rs1_of w → rs2 ≡ rs2_of w → imm ≡ s_immediate w → IfSome result (StandsFor w) }
+    ensures { result ≡ store_of funct3 rs1 rs2 imm }
 {
     match funct3 {
-        0 => Some(Instr::Sb { rs1, rs2, imm }),
-        1 => Some(Instr::Sh { rs1, rs2, imm }),
-        2 => Some(Instr::Sw { rs1, rs2, imm }),
+        0b000 => Some(Instr::Sb { rs1, rs2, imm }),
+        0b001 => Some(Instr::Sh { rs1, rs2, imm }),
+        0b010 => Some(Instr::Sw { rs1, rs2, imm }),
         _ => None,
     }
 }
 
 #[tactic(auto, unfolding(crate::specs::Decoded::immediate_of))]
 fn immediate(funct3: u8, rd: u8, rs1: u8, imm: i32) -> Option<Instr>
-    ensures value { result ≡ immediate_of funct3 rd rs1 imm }
-    ensures found { (w : _) → opcode_of w ≡ 19 → funct3 ≡ funct3_of w → rd ≡ rd_of w → rs1 ≡ rs1_of w → imm ≡ i_immediate w → IfSome result (StandsFor w) }
+    ensures { result ≡ immediate_of funct3 rd rs1 imm }
 {
     match funct3 {
-        0 => Some(Instr::Addi { rd, rs1, imm }),
-        2 => Some(Instr::Slti { rd, rs1, imm }),
-        3 => Some(Instr::Sltiu { rd, rs1, imm }),
-        4 => Some(Instr::Xori { rd, rs1, imm }),
-        6 => Some(Instr::Ori { rd, rs1, imm }),
-        7 => Some(Instr::Andi { rd, rs1, imm }),
+        0b000 => Some(Instr::Addi { rd, rs1, imm }),
+        0b010 => Some(Instr::Slti { rd, rs1, imm }),
+        0b011 => Some(Instr::Sltiu { rd, rs1, imm }),
+        0b100 => Some(Instr::Xori { rd, rs1, imm }),
+        0b110 => Some(Instr::Ori { rd, rs1, imm }),
+        0b111 => Some(Instr::Andi { rd, rs1, imm }),
         _ => None,
     }
 }
 
 #[tactic(auto, unfolding(crate::specs::Decoded::shift_of))]
 fn shift(funct3: u8, funct7: u8, rd: u8, rs1: u8, amount: u8) -> Option<Instr>
-    ensures value { result ≡ shift_of funct3 funct7 rd rs1 amount }
-    ensures found { (w : _) → opcode_of w ≡ 19 → funct3 ≡ funct3_of w → funct7 ≡ funct7_of w → rd ≡ rd_of w → rs1 ≡ rs1_of w → amount ≡ rs2_of w → IfSome result (StandsFor w) }
+    ensures { result ≡ shift_of funct3 funct7 rd rs1 amount }
 {
     match (funct7, funct3) {
-        (0, 1) => Some(Instr::Slli { rd, rs1, amount }),
-        (0, 5) => Some(Instr::Srli { rd, rs1, amount }),
-        (32, 5) => Some(Instr::Srai { rd, rs1, amount }),
+        (0b0000000, 0b001) => Some(Instr::Slli { rd, rs1, amount }),
+        (0b0000000, 0b101) => Some(Instr::Srli { rd, rs1, amount }),
+        (0b0100000, 0b101) => Some(Instr::Srai { rd, rs1, amount }),
+        _ => None,
+    }
+}
+
+#[tactic(auto, unfolding(crate::specs::Decoded::base_of))]
+fn base(funct3: u8, rd: u8, rs1: u8, rs2: u8) -> Option<Instr>
+    ensures { result ≡ base_of funct3 rd rs1 rs2 }
+{
+    match funct3 {
+        0b000 => Some(Instr::Add { rd, rs1, rs2 }),
+        0b001 => Some(Instr::Sll { rd, rs1, rs2 }),
+        0b010 => Some(Instr::Slt { rd, rs1, rs2 }),
+        0b011 => Some(Instr::Sltu { rd, rs1, rs2 }),
+        0b100 => Some(Instr::Xor { rd, rs1, rs2 }),
+        0b101 => Some(Instr::Srl { rd, rs1, rs2 }),
+        0b110 => Some(Instr::Or { rd, rs1, rs2 }),
+        0b111 => Some(Instr::And { rd, rs1, rs2 }),
+        _ => None,
+    }
+}
+
+#[tactic(auto, unfolding(crate::specs::Decoded::alternate_of))]
+fn alternate(funct3: u8, rd: u8, rs1: u8, rs2: u8) -> Option<Instr>
+    ensures { result ≡ alternate_of funct3 rd rs1 rs2 }
+{
+    match funct3 {
+        0b000 => Some(Instr::Sub { rd, rs1, rs2 }),
+        0b101 => Some(Instr::Sra { rd, rs1, rs2 }),
+        _ => None,
+    }
+}
+
+#[tactic(auto, unfolding(crate::specs::Decoded::multiply_of))]
+fn multiply(funct3: u8, rd: u8, rs1: u8, rs2: u8) -> Option<Instr>
+    ensures { result ≡ multiply_of funct3 rd rs1 rs2 }
+{
+    match funct3 {
+        0b000 => Some(Instr::Mul { rd, rs1, rs2 }),
+        0b001 => Some(Instr::Mulh { rd, rs1, rs2 }),
+        0b010 => Some(Instr::Mulhsu { rd, rs1, rs2 }),
+        0b011 => Some(Instr::Mulhu { rd, rs1, rs2 }),
+        0b100 => Some(Instr::Div { rd, rs1, rs2 }),
+        0b101 => Some(Instr::Divu { rd, rs1, rs2 }),
+        0b110 => Some(Instr::Rem { rd, rs1, rs2 }),
+        0b111 => Some(Instr::Remu { rd, rs1, rs2 }),
         _ => None,
     }
 }
 
 #[tactic(auto, unfolding(crate::specs::Decoded::register_of))]
 fn register(funct3: u8, funct7: u8, rd: u8, rs1: u8, rs2: u8) -> Option<Instr>
-    ensures value { result ≡ register_of funct3 funct7 rd rs1 rs2 }
-    ensures found { (w : _) → opcode_of w ≡ 51 → funct3 ≡ funct3_of w → funct7 ≡ funct7_of w → rd ≡ rd_of w → rs1 ≡ rs1_of w → rs2 ≡ rs2_of w → IfSome result (StandsFor w) }
+    ensures { result ≡ register_of funct3 funct7 rd rs1 rs2 }
 {
-    match (funct7, funct3) {
-        (0, 0) => Some(Instr::Add { rd, rs1, rs2 }),
-        (0, 1) => Some(Instr::Sll { rd, rs1, rs2 }),
-        (0, 2) => Some(Instr::Slt { rd, rs1, rs2 }),
-        (0, 3) => Some(Instr::Sltu { rd, rs1, rs2 }),
-        (0, 4) => Some(Instr::Xor { rd, rs1, rs2 }),
-        (0, 5) => Some(Instr::Srl { rd, rs1, rs2 }),
-        (0, 6) => Some(Instr::Or { rd, rs1, rs2 }),
-        (0, 7) => Some(Instr::And { rd, rs1, rs2 }),
-        (32, 0) => Some(Instr::Sub { rd, rs1, rs2 }),
-        (32, 5) => Some(Instr::Sra { rd, rs1, rs2 }),
-        (1, 0) => Some(Instr::Mul { rd, rs1, rs2 }),
-        (1, 1) => Some(Instr::Mulh { rd, rs1, rs2 }),
-        (1, 2) => Some(Instr::Mulhsu { rd, rs1, rs2 }),
-        (1, 3) => Some(Instr::Mulhu { rd, rs1, rs2 }),
-        (1, 4) => Some(Instr::Div { rd, rs1, rs2 }),
-        (1, 5) => Some(Instr::Divu { rd, rs1, rs2 }),
-        (1, 6) => Some(Instr::Rem { rd, rs1, rs2 }),
-        (1, 7) => Some(Instr::Remu { rd, rs1, rs2 }),
+    match funct7 {
+        0b0000000 => base(funct3, rd, rs1, rs2),
+        0b0100000 => alternate(funct3, rd, rs1, rs2),
+        0b0000001 => multiply(funct3, rd, rs1, rs2),
+        _ => None,
+    }
+}
+
+#[tactic(auto, unfolding(crate::specs::Decoded::system_of))]
+fn system(word: u32) -> Option<Instr>
+    ensures { result ≡ system_of word }
+{
+    match word {
+        0x0000_0073 => Some(Instr::Ecall),
+        0x0010_0073 => Some(Instr::Ebreak),
         _ => None,
     }
 }
 
 #[tactic(auto, unfolding(crate::specs::Decoded::decode_of))]
 fn row(word: u32) -> Option<Instr>
-    ensures value { result ≡ decode_of word }
-    ensures found { IfSome result (StandsFor word) }
+    ensures { result ≡ decode_of word }
 {
-    let Parts {
+    let Fields {
         opcode,
         rd,
         funct3,
@@ -185,43 +220,44 @@ fn row(word: u32) -> Option<Instr>
         funct7,
     } = split(word);
     match opcode {
-        55 => Some(Instr::Lui {
+        LUI => Some(Instr::Lui {
             rd,
             imm: word >> 12,
         }),
-        23 => Some(Instr::Auipc {
+        AUIPC => Some(Instr::Auipc {
             rd,
             imm: word >> 12,
         }),
-        111 => Some(Instr::Jal {
+        JAL => Some(Instr::Jal {
             rd,
             offset: j_immediate(word),
         }),
-        103 if funct3 == 0 => Some(Instr::Jalr {
+        JALR if funct3 == 0b000 => Some(Instr::Jalr {
             rd,
             rs1,
             imm: i_immediate(word),
         }),
-        99 => branch(funct3, rs1, rs2, b_immediate(word)),
-        3 => load(funct3, rd, rs1, i_immediate(word)),
-        35 => store(funct3, rs1, rs2, s_immediate(word)),
-        19 if funct3 % 4 == 1 => shift(funct3, funct7, rd, rs1, rs2),
-        19 => immediate(funct3, rd, rs1, i_immediate(word)),
-        51 => register(funct3, funct7, rd, rs1, rs2),
-        15 if funct3 == 0 => Some(Instr::Fence { word }),
-        115 if word == 0x0000_0073 => Some(Instr::Ecall),
-        115 if word == 0x0010_0073 => Some(Instr::Ebreak),
+        BRANCH => branch(funct3, rs1, rs2, b_immediate(word)),
+        LOAD => load(funct3, rd, rs1, i_immediate(word)),
+        STORE => store(funct3, rs1, rs2, s_immediate(word)),
+        OP_IMM => match funct3 {
+            0b001 | 0b101 => shift(funct3, funct7, rd, rs1, rs2),
+            _ => immediate(funct3, rd, rs1, i_immediate(word)),
+        },
+        OP => register(funct3, funct7, rd, rs1, rs2),
+        MISC_MEM if funct3 == 0b000 => Some(Instr::Fence { word }),
+        SYSTEM => system(word),
         _ => None,
     }
 }
 
-/// The instruction that `word` stands for.
-#[tactic(auto, using(crate::proofs::Agreed::none_from_decode_of, crate::proofs::RegistersIn::registers_found))]
+/// The instruction that `word` stands for, or None where it stands for none.
+#[tactic(auto, using(crate::proofs::Agreed::found_from_decode_of, crate::proofs::Agreed::none_from_decode_of))]
 pub fn decode(word: u32) -> Option<Instr>
     ensures value { result ≡ decode_of word }
     ensures found { IfSome result (StandsFor word) }
-    ensures registers { IfSome result HasRegisters }
-    ensures none { result ≡ None → (i : _) → StandsFor word i → ⊥ }
+    ensures in_range { IfSome result InRange }
+    ensures none { IsNone result ↔ ((i : _) → StandsFor word i → ⊥) }
 {
     row(word)
 }

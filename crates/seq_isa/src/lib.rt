@@ -3,12 +3,17 @@
 
 mod decoding;
 mod encoding;
+mod fields;
 mod instr;
 mod laws;
-pub mod parts;
+mod opcodes;
+#[cfg(test)]
+mod tests;
 
 pub use decoding::decode;
 pub use encoding::encode;
 pub use instr::Instr;
-pub use laws::{at_most_one, round_trip};
-pub use parts::Parts;
+pub use laws::{
+    decode_encoded, encode_decoded, listing_is_function, one_instruction_a_word,
+    one_word_an_instruction,
+};

@@ -1,8 +1,8 @@
-//! Products, quotients and shifts of signed numbers.
+//! Products, quotients and shifts, as the manual has them for words of 32 bits.
 ghost use Rattle.std.specs.Prelude.{◌≡◌, ℕ, ◌*◌, ◌/◌, ◌^◌, ◌<◌, pos, ◌*ℤ◌, int_lt};
-ghost use Rattle.seq_isa.specs.Meaning.{signed, bits_of, upper, quotient, remainder, quotient_unsigned, remainder_unsigned, shifted_signed, flag};
+ghost use Rattle.seq_isa.specs.Meaning.{signed, upper, quotient, remainder, quotient_unsigned, remainder_unsigned, shifted_signed, flag};
 
-/// Whether a number is below another, both in two's complement.
+/// Whether a number is below another, both signed.
 pub fn is_less(a: u32, b: u32) -> bool
     ensures { result ≡ int_lt (signed a) (signed b) }
 {
@@ -23,7 +23,7 @@ fn product(a: i32, b: i32) -> i64
     a as i64 * b as i64
 }
 
-/// The upper half of a product of two signed numbers.
+/// MULH: the upper 32 bits of the product of two signed numbers.
 pub fn multiply_high(a: u32, b: u32) -> u32
     ensures { result ≡ upper (signed a *ℤ signed b) }
 {
@@ -31,7 +31,7 @@ pub fn multiply_high(a: u32, b: u32) -> u32
     (product.cast_unsigned() >> 32) as u32
 }
 
-/// The upper half of a product of a signed number and an unsigned one.
+/// MULHSU: the upper 32 bits of the product of a signed number `a` and an unsigned one `b`.
 pub fn multiply_high_mixed(a: u32, b: u32) -> u32
     ensures { result ≡ upper (signed a *ℤ pos b) }
 {
@@ -39,14 +39,14 @@ pub fn multiply_high_mixed(a: u32, b: u32) -> u32
     (product.cast_unsigned() >> 32) as u32
 }
 
-/// The upper half of a product.
+/// MULHU: the upper 32 bits of the product of two unsigned numbers.
 pub fn multiply_high_unsigned(a: u32, b: u32) -> u32
     ensures { result ≡ a * b / 2 ^ 32 }
 {
     ((a as u64 * b as u64) >> 32) as u32
 }
 
-/// The quotient of two signed numbers.
+/// DIV: the quotient of two signed numbers, rounded towards zero.
 #[tactic(auto, unfolding(seq_isa::specs::Meaning::quotient))]
 pub fn divide(a: u32, b: u32) -> u32
     ensures { result ≡ quotient a b }
@@ -59,7 +59,7 @@ pub fn divide(a: u32, b: u32) -> u32
         .cast_unsigned()
 }
 
-/// The remainder of two signed numbers.
+/// REM: the remainder of two signed numbers, with the sign of the dividend.
 #[tactic(auto, unfolding(seq_isa::specs::Meaning::remainder))]
 pub fn remainder(a: u32, b: u32) -> u32
     ensures { result ≡ remainder a b }
@@ -72,7 +72,7 @@ pub fn remainder(a: u32, b: u32) -> u32
         .cast_unsigned()
 }
 
-/// The quotient of two numbers.
+/// DIVU: the quotient of two unsigned numbers.
 #[tactic(auto, unfolding(seq_isa::specs::Meaning::quotient_unsigned))]
 pub fn divide_unsigned(a: u32, b: u32) -> u32
     ensures { result ≡ quotient_unsigned a b }
@@ -80,7 +80,7 @@ pub fn divide_unsigned(a: u32, b: u32) -> u32
     if b == 0 { u32::MAX } else { a / b }
 }
 
-/// The remainder of two numbers.
+/// REMU: the remainder of two unsigned numbers.
 #[tactic(auto, unfolding(seq_isa::specs::Meaning::remainder_unsigned))]
 pub fn remainder_unsigned(a: u32, b: u32) -> u32
     ensures { result ≡ remainder_unsigned a b }
@@ -88,10 +88,10 @@ pub fn remainder_unsigned(a: u32, b: u32) -> u32
     if b == 0 { a } else { a % b }
 }
 
-/// A shift to the right that copies the sign.
-pub fn shift_signed(a: u32, k: u32) -> u32
-    requires { k < 32 }
-    ensures { result ≡ shifted_signed a k }
+/// SRA: a shift to the right by `amount`, in which copies of the sign bit come in.
+pub fn shift_signed(a: u32, amount: u32) -> u32
+    requires { amount < 32 }
+    ensures { result ≡ shifted_signed a amount }
 {
-    (a.cast_signed() >> k).cast_unsigned()
+    (a.cast_signed() >> amount).cast_unsigned()
 }

@@ -1,8 +1,8 @@
 //! What an instruction does, and the parts from which it is made.
-ghost use Rattle.std.specs.Prelude.{◌≡◌, ℕ, ◌+◌, ◌%◌, ◌<◌, ◌≤◌, ◌^◌, IfSome, None};
-ghost use Rattle.seq_isa.specs.Meaning.{register, bits_of, following, written, gives, jumps, branches, loads, stores, address, same, extended};
+ghost use Rattle.std.specs.Prelude.{◌≡◌, ℕ, ◌+◌, ◌*◌, ◌%◌, ◌<◌, ◌≤◌, ◌^◌, IfSome, None};
+ghost use Rattle.seq_isa.specs.Meaning.{register, following, written, gives, jumps, branches, loads, stores, address};
 ghost use Rattle.seq_rv32.specs.Widths.{IsWidth};
-ghost use Rattle.seq_rv32.specs.Effects.{effect_of, extend_of, StoreFits, store_of, NamesRegister, applied};
+ghost use Rattle.seq_rv32.specs.Effects.{effect_of, extend_of, StoreFits, store_of, NamesRegister, ChangesNothing, applied};
 
 use crate::port::{Admit, Port};
 use seq_words::Regs;
@@ -10,17 +10,23 @@ use seq_words::Regs;
 /// What an instruction does.
 #[derive(Clone, Copy, PartialEq, Eq, Debug)]
 pub enum Effect {
+    /// It moves on to the address `next`. `wrote` is the register that it writes, from 1 to 31, with the value; `stored` is
+    /// the address, the width in bytes and the value of its store, whose bits above the width are 0.
     Next {
         wrote: Option<(u8, u32)>,
         stored: Option<(u32, u8, u32)>,
         next: u32,
     },
+    /// ECALL: it calls the kernel.
     Call,
+    /// It traps with a cause: 0 a misaligned target, 1 a fetch outside, 2 no instruction, 3 EBREAK, 4 and 5 a load, 6 and 7
+    /// a store, misaligned and outside.
     Trap(u8),
+    /// Its store is inside, and the port has no room for it.
     Full,
 }
 
-/// What a register holds.
+/// What a register holds; x0 holds 0.
 pub fn read(regs: &Regs, r: u8) -> u32
     requires { r < 32 }
     ensures { result ≡ register regs.now r }
@@ -36,12 +42,14 @@ pub fn address(regs: &Regs, rs1: u8, imm: i32) -> u32
     read(regs, rs1).wrapping_add(imm.cast_unsigned())
 }
 
+/// The address of the next instruction.
 fn following(regs: &Regs) -> u32
     ensures { result ≡ following regs.now }
 {
     regs.pc.wrapping_add(4)
 }
 
+/// The register `rd` with its value, or None for x0.
 fn written(rd: u8, value: u32) -> Option<(u8, u32)>
     requires { rd < 32 }
     ensures value { result ≡ written rd value }
@@ -65,7 +73,7 @@ pub fn gives(regs: &Regs, rd: u8, value: u32) -> Effect
     }
 }
 
-/// A jump.
+/// A jump, which writes the address of the next instruction to `rd`.
 #[tactic(auto, unfolding(seq_isa::specs::Meaning::jumps))]
 pub fn jumps(regs: &Regs, rd: u8, target: u32) -> Effect
     requires { rd < 32 }
@@ -109,14 +117,18 @@ pub fn branches(regs: &Regs, taken: bool, offset: i32) -> Effect
     }
 }
 
-/// What a load does with the number that it reads.
+/// How a load extends the number that it reads to 32 bits.
 #[derive(Clone, Copy, PartialEq, Eq, Debug)]
 pub enum Extension {
+    /// By zeros.
     Zero,
+    /// By copies of bit 7.
     Byte,
+    /// By copies of bit 15.
     Half,
 }
 
+/// The number that a load reads, extended to 32 bits.
 fn extend(kind: Extension, n: u32) -> u32
     requires byte { kind ≡ Extension.Byte → n < 2 ^ 8 }
     requires half { kind ≡ Extension.Half → n < 2 ^ 16 }
@@ -149,7 +161,20 @@ pub fn loads<P: Port>(regs: &Regs, port: &P, rd: u8, at: u32, width: u8, kind: E
     }
 }
 
-/// A store.
+/// The number of the `width` low bytes.
+fn low_bytes(value: u32, width: u8) -> u32
+    requires { IsWidth width }
+    ensures value { result ≡ value % 2 ^ (8 * width) }
+    ensures low { result < 2 ^ (8 * width) }
+{
+    match width {
+        1 => value % 0x100,
+        2 => value % 0x1_0000,
+        _ => value,
+    }
+}
+
+/// A store of the `width` low bytes of `value`.
 #[tactic(auto, unfolding(seq_isa::specs::Meaning::stores))]
 pub fn stores<P: Port>(regs: &Regs, port: &P, at: u32, width: u8, value: u32) -> Effect
     requires { IsWidth width }
@@ -165,16 +190,17 @@ pub fn stores<P: Port>(regs: &Regs, port: &P, at: u32, width: u8, value: u32) ->
         Admit::Full => Effect::Full,
         Admit::Fits => Effect::Next {
             wrote: None,
-            stored: Some((at, width, value)),
+            stored: Some((at, width, low_bytes(value, width))),
             next: following(regs),
         },
     }
 }
 
-/// Makes an effect on the registers.
+/// Makes an effect on the registers. Call, Trap and Full change nothing.
 pub fn apply(regs: &mut Regs, effect: &Effect)
     requires { NamesRegister effect.now }
-    ensures { regs.new ≡ applied regs.old effect.now }
+    ensures after { regs.new ≡ applied regs.old effect.now }
+    ensures nothing { ChangesNothing effect.now → regs.new ≡ regs.old }
 {
     if let Effect::Next { wrote, next, .. } = *effect {
         if let Some((r, value)) = wrote {

@@ -1,8 +1,8 @@
 //! The plan of an instruction.
-ghost use Rattle.std.specs.Prelude.{◌≡◌, ℕ, ◌%◌};
-ghost use Rattle.seq_isa.specs.Registers.{HasRegisters};
+ghost use Rattle.std.specs.Prelude.{◌≡◌, ℕ, ◌%◌, ◌↔◌};
+ghost use Rattle.seq_isa.specs.InRange.{InRange};
 ghost use Rattle.seq_isa.specs.Meaning.{outcome_of, outcome_at};
-ghost use Rattle.seq_rv32.specs.Effects.{effect_of, StoreFits, NamesRegister, applied, bytes_after, state_after};
+ghost use Rattle.seq_rv32.specs.Effects.{effect_of, StoresWhereFull, StoreFits, NamesRegister, ChangesNothing, applied, bytes_after, state_after};
 
 use crate::alu::{
     divide, divide_unsigned, flag, is_less, multiply_high, multiply_high_mixed,
@@ -15,10 +15,10 @@ use crate::port::Port;
 use seq_isa::{Instr, decode};
 use seq_words::Regs;
 
-/// What an instruction would do.
+/// What an instruction would do with these registers at a port.
 #[tactic(auto, unfolding(seq_isa::specs::Meaning::outcome_of))]
-pub fn execute<P: Port>(instr: Instr, regs: &Regs, port: &P) -> Effect
-    requires { HasRegisters instr }
+fn execute<P: Port>(instr: Instr, regs: &Regs, port: &P) -> Effect
+    requires { InRange instr }
     ensures value { result ≡ effect_of (P.admission port.now) (outcome_of regs.now (P.bytes port.now) instr) }
     ensures register { NamesRegister result }
     ensures store { StoreFits (P.admission port.now) result }
@@ -106,14 +106,14 @@ pub fn execute<P: Port>(instr: Instr, regs: &Regs, port: &P) -> Effect
             port,
             address(regs, rs1, imm),
             1,
-            read(regs, rs2) & 0xff,
+            read(regs, rs2),
         ),
         Instr::Sh { rs1, rs2, imm } => stores(
             regs,
             port,
             address(regs, rs1, imm),
             2,
-            read(regs, rs2) & 0xffff,
+            read(regs, rs2),
         ),
         Instr::Sw { rs1, rs2, imm } => stores(
             regs,
@@ -211,8 +211,8 @@ pub fn execute<P: Port>(instr: Instr, regs: &Regs, port: &P) -> Effect
     }
 }
 
-/// What the instruction at pc would do.
-pub fn plan<P: Port>(regs: &Regs, port: &P) -> Effect
+/// What the instruction at pc would do with these registers at a port.
+fn effect_at_pc<P: Port>(regs: &Regs, port: &P) -> Effect
     requires { regs.now.pc % 4 ≡ 0 }
     ensures value { result ≡ effect_of (P.admission port.now) (outcome_at regs.now (P.bytes port.now)) }
     ensures register { NamesRegister result }
@@ -227,13 +227,27 @@ pub fn plan<P: Port>(regs: &Regs, port: &P) -> Effect
     }
 }
 
-/// Takes the instruction at pc.
+/// What the instruction at pc would do with these registers at a port: the outcome that the manual gives it over the bytes that
+/// the port holds, or Full where the port has no room for its store.
+#[tactic(auto, using(crate::proofs::Refusals::full_exactly))]
+pub fn plan<P: Port>(regs: &Regs, port: &P) -> Effect
+    requires { regs.now.pc % 4 ≡ 0 }
+    ensures value { result ≡ effect_of (P.admission port.now) (outcome_at regs.now (P.bytes port.now)) }
+    ensures full { (result ≡ Effect.Full) ↔ StoresWhereFull (P.admission port.now) (outcome_at regs.now (P.bytes port.now)) }
+    ensures register { NamesRegister result }
+    ensures store { StoreFits (P.admission port.now) result }
+{
+    effect_at_pc(regs, port)
+}
+
+/// Takes the instruction at pc: plans it, applies the effect, and makes its store. Call, Trap and Full change nothing.
 pub fn exec<P: Port>(regs: &mut Regs, port: &mut P) -> Effect
     requires { regs.old.pc % 4 ≡ 0 }
     ensures value { result ≡ effect_of (P.admission port.old) (outcome_at regs.old (P.bytes port.old)) }
     ensures regs { regs.new ≡ applied regs.old result }
     ensures bytes { P.bytes port.new ≡ bytes_after (P.bytes port.old) result }
     ensures state { port.new ≡ state_after P.after_store port.old result }
+    ensures nothing { ChangesNothing result → (regs.new ≡ regs.old) × (port.new ≡ port.old) }
 {
     let effect = plan(regs, port);
     apply(regs, &effect);
