@@ -1,11 +1,15 @@
--- When a call that answers a fault may do so.
+-- When a call may answer an error.
 use Rattle.std.specs.Prelude.{ℕ, ◌+◌, ◌-◌, ◌^◌, ◌≤◌, ◌⊎◌, min, Result, IsErrOf}
 use Rattle.seq_shelf.specs.declared.shelf.LoadError.{LoadError}
 use Rattle.seq_shelf.specs.declared.shelf.LoadError.TheVariants.{Failed, NoMemory}
 
+-- a count after one more: it stands still at its type's end
+abbrev pub one_more : ℕ → ℕ
+one_more count = min (count + 1) (2 ^ 64 - 1)
+
 -- the count rose, or stands at its type's end
 abbrev pub Rose : ℕ → ℕ → Type 0
-Rose before now = min (before + 1) (2 ^ 64 - 1) ≤ now
+Rose before now = one_more before ≤ now
 
 -- a count never falls, and this error comes only where it rose
 pub record HasCause {T E : Type 0} (error : E) (before now : ℕ) (result : Result T E) : Type 0 where

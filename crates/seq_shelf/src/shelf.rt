@@ -1,13 +1,15 @@
 // A shelf: a map from names to bytes.
-ghost use Rattle.std.specs.Prelude.{◌≡◌, ◌<◌, ◌≤◌, ℕ, List, [], length, OnOk, OnErr, IfOk, IsErrOf, Option, Some, None, true, ◌∷◌};
+ghost use Rattle.std.specs.Prelude.{◌≡◌, ◌↔◌, ◌⊎◌, ◌<◌, ◌≤◌, ℕ, List, [], length, OnOk, OnErr, IfOk, IsErrOf, IfSome, Option, Some, None, true, false, Ok, Err, ◌∷◌};
+ghost use Rattle.std.specs.BTreeMap.{get_by_text};
 ghost use Rattle.std.specs.Option.{option_copied};
-ghost use Rattle.std.specs.List.{find};
-ghost use Rattle.std.specs.Str.{bytes_eq};
 ghost use Rattle.seq_shelf.specs.Causes.{Rose, HasCause, AnswersUnlessFailed};
-ghost use Rattle.seq_shelf.specs.Told.{Map, Stores, KeepsOthers, ShelfView};
+ghost use Rattle.seq_shelf.specs.Calls.{is_due, after_call};
+ghost use Rattle.seq_shelf.specs.Told.{load_of, Map, Stores, Keeps, KeepsOthers, ShelfView};
 
+use crate::failing::Failing;
 use seq_words::{Bytes, NoMemory};
 use std::alloc::Global;
+use std::collections::BTreeMap;
 
 #[derive(Clone, Copy, Debug, PartialEq, Eq)]
 pub enum LoadError {
@@ -51,183 +53,145 @@ pub trait Shelf {
         ensures fault { HasCause StoreError.Failed (shelf self.old).faults (shelf self.new).faults result };
 }
 
-/// A file, by its name.
-#[derive(Drop)]
-pub struct File {
-    pub name: Bytes,
-    pub bytes: Bytes,
-}
-
-ghost use Rattle.seq_shelf.specs.Files.{contents};
-
-// The first file of that name.
-fn find_file<'a>(files: &'a [File], name: &str) -> Option<&'a File>
-    ensures { option_copied result ≡ find (λ f. bytes_eq f.name name.now) files.now }
-{
-    files.iter().find(|f| f.name.as_slice() == name.as_bytes())
-}
-
-// A copy of what is under that name, unless it is too long.
-fn load_from(alloc: Global, files: &[File], name: &str, limit: u64) -> Result<Bytes, LoadError>
-    ensures found { IfOk result (λ bytes. (contents files.now name.now ≡ Some bytes) × (length bytes ≤ limit)) }
-    ensures absent { IsErrOf result LoadError.Absent → contents files.now name.now ≡ None }
-    ensures too_long { IsErrOf result LoadError.TooLong →
-        ((bytes : List ℕ) × (contents files.now name.now ≡ Some bytes) × (limit < length bytes)) }
-    ensures not_failed { ¬ IsErrOf result LoadError.Failed }
-{
-    match find_file(files, name) {
-        None => Err(LoadError::Absent),
-        Some(file) => {
-            let bytes = file.bytes.as_slice();
-            if bytes.len() as u64 > limit {
-                return Err(LoadError::TooLong);
-            }
-            match Bytes::copy_of(alloc, bytes) {
-                Ok(copy) => Ok(copy),
-                Err(_) => Err(LoadError::NoMemory),
-            }
-        }
-    }
-}
-
-// Puts a file before the others.
-fn put_into(alloc: Global, files: &mut Vec<File>, name: &str, bytes: &[u8]) -> Result<(), NoMemory>
-    ensures ok { OnOk result (files.new.items ≡ record { name = name.now; bytes = bytes.now } ∷ files.old.items) }
-    ensures err { OnErr result (files.new.items ≡ files.old.items) }
-{
-    let file = File {
-        name: Bytes::copy_of(alloc, name.as_bytes())?,
-        bytes: Bytes::copy_of(alloc, bytes)?,
-    };
-    match files.insert(0, file) {
-        Ok(()) => Ok(()),
-        Err(_) => Err(NoMemory),
-    }
-}
-
 /// A shelf in memory that never fails.
 #[derive(Drop)]
 pub struct SoundShelf {
     alloc: Global,
-    files: Vec<File>,
+    files: BTreeMap<String, Bytes>,
 }
 
 impl SoundShelf {
+    /// A shelf with no file. It takes no memory.
     pub fn new(alloc: Global) -> Self
-        ensures { result.files.items ≡ [] }
+        ensures { (⟦<SoundShelf as Shelf>⟧.shelf result).told ≡ Some (λ name. None) }
     {
         SoundShelf {
             alloc,
-            files: Vec::new(alloc),
+            files: BTreeMap::new(alloc),
         }
     }
 
-    /// Sets a file.
+    /// Makes `bytes` the content of the file of that name.
+    #[tactic(auto, using(std::proofs::lemmas::Map::Text::text_keys))]
     pub fn put(&mut self, name: &str, bytes: &[u8]) -> Result<(), NoMemory>
-        ensures ok { OnOk result (Stores (Some (contents self.old.files.items)) (Some (contents self.new.files.items)) name.now bytes.now) }
-        ensures err { OnErr result (self.new.files.items ≡ self.old.files.items) }
+        ensures ok { OnOk result (Stores (⟦<SoundShelf as Shelf>⟧.shelf self.old).told (⟦<SoundShelf as Shelf>⟧.shelf self.new).told name.now bytes.now) }
+        ensures err { OnErr result (Keeps (⟦<SoundShelf as Shelf>⟧.shelf self.old).told (⟦<SoundShelf as Shelf>⟧.shelf self.new).told) }
     {
-        put_into(self.alloc, &mut self.files, name, bytes)
+        let Ok(key) = String::from_str(self.alloc, name) else {
+            return Err(NoMemory);
+        };
+        let content = Bytes::copy_of(self.alloc, bytes)?;
+        match self.files.insert(key, content) {
+            Ok(_) => Ok(()),
+            Err(_) => Err(NoMemory),
+        }
+    }
+
+    /// The content of the file of that name.
+    pub fn get(&self, name: &str) -> Option<&[u8]>
+        ensures { IfSome (⟦<SoundShelf as Shelf>⟧.shelf self.now).told (λ map. option_copied result ≡ map name.now) }
+    {
+        match self.files.get(name) {
+            Some(content) => Some(content.as_slice()),
+            None => None,
+        }
     }
 }
 
 impl Shelf for SoundShelf {
-    ghost shelf = { λ s. record { told = Some (contents s.files.items); faults = 0 } };
+    ghost shelf = { λ s. record { told = Some (get_by_text s.files); faults = 0 } };
 
-    fn load(&mut self, name: &str, limit: u64) -> Result<Bytes, LoadError> {
-        load_from(self.alloc, &self.files, name, limit)
+    fn load(&mut self, name: &str, limit: u64) -> Result<Bytes, LoadError>
+        ensures same { self.new ≡ self.old }
+        ensures loaded { result ≡ Err LoadError.NoMemory ⊎ result ≡ load_of (get_by_text self.old.files name.now) limit }
+    {
+        let Some(content) = self.get(name) else {
+            return Err(LoadError::Absent);
+        };
+        if content.len() as u64 > limit {
+            return Err(LoadError::TooLong);
+        }
+        match Bytes::copy_of(self.alloc, content) {
+            Ok(copy) => Ok(copy),
+            Err(_) => Err(LoadError::NoMemory),
+        }
     }
 
-    fn store(&mut self, name: &str, bytes: &[u8]) -> Result<(), StoreError> {
-        match put_into(self.alloc, &mut self.files, name, bytes) {
+    fn store(&mut self, name: &str, bytes: &[u8]) -> Result<(), StoreError>
+        ensures ok { OnOk result (Stores (Some (get_by_text self.old.files)) (Some (get_by_text self.new.files)) name.now bytes.now) }
+        ensures err { OnErr result (Keeps (Some (get_by_text self.old.files)) (Some (get_by_text self.new.files))) }
+        ensures never_fails { ¬ IsErrOf result StoreError.Failed }
+    {
+        match self.put(name, bytes) {
             Ok(()) => Ok(()),
             Err(_) => Err(StoreError::NoMemory),
         }
     }
 }
 
-/// A shelf in memory that fails at listed calls of `load` and `store`, by their numbers from 0.
+/// A shelf in memory that fails at listed calls of `load` and `store`, which are counted together from 0.
 #[derive(Drop)]
 pub struct MemShelf {
-    alloc: Global,
-    files: Vec<File>,
-    failing: Bytes,
-    calls: u64,
-    faults: u64,
+    sound: SoundShelf,
+    failing: Failing,
 }
 
 impl MemShelf {
+    /// A shelf with no file. It takes no memory.
     pub fn new(alloc: Global, failing: Bytes) -> Self
-        ensures files { result.files.items ≡ [] }
-        ensures failing { result.failing ≡ failing }
-        ensures calls { result.calls ≡ 0 }
+        ensures fresh { ⟦<MemShelf as Shelf>⟧.shelf result ≡ record { told = Some (λ name. None); faults = 0 } }
+        ensures failing { result.failing ≡ record { numbers = failing; calls = 0; faults = 0 } }
     {
         MemShelf {
-            alloc,
-            files: Vec::new(alloc),
-            failing,
-            calls: 0,
-            faults: 0,
+            sound: SoundShelf::new(alloc),
+            failing: Failing::new(failing),
         }
     }
 
-    /// Sets a file. It isn't a counted call.
+    /// Makes `bytes` the content of the file of that name. It isn't a counted call.
     pub fn put(&mut self, name: &str, bytes: &[u8]) -> Result<(), NoMemory>
-        ensures ok { OnOk result (Stores (Some (contents self.old.files.items)) (Some (contents self.new.files.items)) name.now bytes.now) }
-        ensures err { OnErr result (self.new.files.items ≡ self.old.files.items) }
-        ensures calls { self.new.calls ≡ self.old.calls }
-        ensures failing { self.new.failing ≡ self.old.failing }
+        ensures ok { OnOk result (Stores (⟦<MemShelf as Shelf>⟧.shelf self.old).told (⟦<MemShelf as Shelf>⟧.shelf self.new).told name.now bytes.now) }
+        ensures err { OnErr result (Keeps (⟦<MemShelf as Shelf>⟧.shelf self.old).told (⟦<MemShelf as Shelf>⟧.shelf self.new).told) }
+        ensures not_counted { self.new.failing ≡ self.old.failing }
     {
-        put_into(self.alloc, &mut self.files, name, bytes)
+        self.sound.put(name, bytes)
     }
 
-    /// What it holds under that name.
+    /// The content of the file of that name.
     pub fn get(&self, name: &str) -> Option<&[u8]>
-        ensures { option_copied result ≡ contents self.now.files.items name.now }
+        ensures { IfSome (⟦<MemShelf as Shelf>⟧.shelf self.now).told (λ map. option_copied result ≡ map name.now) }
     {
-        match find_file(&self.files, name) {
-            None => None,
-            Some(file) => Some(file.bytes.as_slice()),
-        }
-    }
-
-    // Counts a call, and says whether it is to fail.
-    fn fails(&mut self) -> bool
-        ensures files { self.new.files ≡ self.old.files }
-        ensures count { self.old.faults ≤ self.new.faults }
-        ensures fails { result ≡ true → Rose self.old.faults self.new.faults }
-    {
-        let call = self.calls;
-        self.calls = call.saturating_add(1);
-        let fails = self
-            .failing
-            .as_slice()
-            .iter()
-            .any(|number| u64::from(*number) == call);
-        if fails {
-            self.faults = self.faults.saturating_add(1);
-        }
-        fails
+        self.sound.get(name)
     }
 }
 
 impl Shelf for MemShelf {
-    ghost shelf = { λ s. record { told = Some (contents s.files.items); faults = s.faults } };
+    ghost shelf = { λ s. record { told = Some (get_by_text s.sound.files); faults = s.failing.faults } };
 
-    fn load(&mut self, name: &str, limit: u64) -> Result<Bytes, LoadError> {
-        if self.fails() {
+    fn load(&mut self, name: &str, limit: u64) -> Result<Bytes, LoadError>
+        ensures fails { result ≡ Err LoadError.Failed ↔ (is_due self.old.failing ≡ true) }
+        ensures counted { self.new.failing ≡ after_call self.old.failing }
+        ensures same { self.new.sound ≡ self.old.sound }
+        ensures loaded { is_due self.old.failing ≡ false →
+            result ≡ Err LoadError.NoMemory ⊎ result ≡ load_of (get_by_text self.old.sound.files name.now) limit }
+        ensures fault { HasCause LoadError.Failed self.old.failing.faults self.new.failing.faults result }
+    {
+        if self.failing.fails() {
             return Err(LoadError::Failed);
         }
-        load_from(self.alloc, &self.files, name, limit)
+        self.sound.load(name, limit)
     }
 
-    fn store(&mut self, name: &str, bytes: &[u8]) -> Result<(), StoreError> {
-        if self.fails() {
+    fn store(&mut self, name: &str, bytes: &[u8]) -> Result<(), StoreError>
+        ensures fails { result ≡ Err StoreError.Failed ↔ (is_due self.old.failing ≡ true) }
+        ensures counted { self.new.failing ≡ after_call self.old.failing }
+        ensures ok { OnOk result (Stores (Some (get_by_text self.old.sound.files)) (Some (get_by_text self.new.sound.files)) name.now bytes.now) }
+        ensures err { OnErr result (Keeps (Some (get_by_text self.old.sound.files)) (Some (get_by_text self.new.sound.files))) }
+        ensures fault { HasCause StoreError.Failed self.old.failing.faults self.new.failing.faults result }
+    {
+        if self.failing.fails() {
             return Err(StoreError::Failed);
         }
-        match put_into(self.alloc, &mut self.files, name, bytes) {
-            Ok(()) => Ok(()),
-            Err(_) => Err(StoreError::NoMemory),
-        }
+        self.sound.store(name, bytes)
     }
 }
