@@ -117,3 +117,33 @@ impl Chronicle for MemChronicle {
         self.sound.append(pid, count)
     }
 }
+
+#[cfg(test)]
+mod tests {
+    use super::*;
+    use std::test::Fail;
+
+    #[test]
+    fn chronicles(rt: HostRuntime) -> Result<(), Fail> {
+        let alloc = rt.alloc();
+        let mut sound = SoundChronicle::new(alloc);
+        let mut listed = MemChronicle::new(alloc, Bytes::copy_of(alloc, &[0, 2])?);
+        for (pid, count, wanted) in [
+            (3, 8, Err(ChronicleError::Fault)),
+            (4, 9, Ok(())),
+            (5, 1, Err(ChronicleError::Fault)),
+            (15, 10_000, Ok(())),
+        ] {
+            assert_eq!(rt; sound.append(Pid(pid), count), Ok(()), "pair {pid}");
+            assert_eq!(rt; listed.append(Pid(pid), count), wanted, "pair {pid}");
+        }
+        let pair = |pid, count| Entry {
+            pid: Pid(pid),
+            count,
+        };
+        let all = [pair(3, 8), pair(4, 9), pair(5, 1), pair(15, 10_000)];
+        assert_eq!(rt; sound.pairs(), all.as_slice());
+        assert_eq!(rt; listed.pairs(), [pair(4, 9), pair(15, 10_000)].as_slice());
+        Ok(())
+    }
+}

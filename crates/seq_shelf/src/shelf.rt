@@ -195,3 +195,51 @@ impl Shelf for MemShelf {
         self.sound.store(name, bytes)
     }
 }
+
+#[cfg(test)]
+mod tests {
+    use super::*;
+    use std::test::Fail;
+
+    #[test]
+    fn shelves(rt: HostRuntime) -> Result<(), Fail> {
+        let alloc = rt.alloc();
+        let mut sound = SoundShelf::new(alloc);
+        let mut listed = MemShelf::new(alloc, Bytes::copy_of(alloc, &[1, 7])?);
+        for (name, content) in [("a", "one"), ("b", "two"), ("a", "three")] {
+            sound.put(name, content.as_bytes())?;
+            listed.put(name, content.as_bytes())?;
+        }
+        for (name, limit, wanted, wanted_of_listed) in [
+            ("a", 5, Ok(5), Ok(5)),
+            ("a", 9, Ok(5), Err(LoadError::Failed)),
+            ("a", 4, Err(LoadError::TooLong), Err(LoadError::TooLong)),
+            ("b", 3, Ok(3), Ok(3)),
+            ("c", 3, Err(LoadError::Absent), Err(LoadError::Absent)),
+            ("", 0, Err(LoadError::Absent), Err(LoadError::Absent)),
+        ] {
+            let loaded = sound.load(name, limit).map(|bytes| bytes.as_slice().len());
+            assert_eq!(rt; loaded, wanted, "{name} {limit}");
+            let loaded = listed.load(name, limit).map(|bytes| bytes.as_slice().len());
+            assert_eq!(rt; loaded, wanted_of_listed, "{name} {limit}");
+        }
+        assert_eq!(rt; sound.store("c", b""), Ok(()));
+        assert_eq!(rt; listed.store("c", b""), Ok(()));
+        assert_eq!(rt; sound.store("b", b"four"), Ok(()));
+        assert_eq!(rt; listed.store("b", b"four"), Err(StoreError::Failed));
+        for (name, content, content_of_listed) in [
+            ("a", Some("three"), Some("three")),
+            ("b", Some("four"), Some("two")),
+            ("c", Some(""), Some("")),
+            ("d", None, None),
+        ] {
+            assert_eq!(rt; sound.get(name), content.map(str::as_bytes), "{name}");
+            assert_eq!(rt;
+                listed.get(name),
+                content_of_listed.map(str::as_bytes),
+                "{name}"
+            );
+        }
+        Ok(())
+    }
+}
