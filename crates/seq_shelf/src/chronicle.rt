@@ -8,19 +8,23 @@ use crate::failing::Failing;
 use seq_words::{Bytes, Entry, Items, Pid};
 use std::alloc::Global;
 
+/// Why a chronicle doesn't take a pair.
 #[derive(Clone, Copy, Debug, PartialEq, Eq)]
 pub enum ChronicleError {
+    /// A fault of the chronicle.
     Fault,
     NoMemory,
 }
 
+/// The list of the commits: pairs of a process and the number of steps that it took.
 pub trait Chronicle {
-    /// The pairs, where it tells them, and the counts of its faults and of the memory that was refused to it.
+    /// The list, where the chronicle tells it, and the counts of its faults and of the memory that was refused to it.
     ghost chronicle: { Self → ChronicleView };
 
     /// Appends the pair.
     fn append(&mut self, pid: Pid, count: u32) -> Result<(), ChronicleError>
-        ensures ok { OnOk result (Grows (chronicle self.old).told (chronicle self.new).told (record { pid = pid; count = count } ∷ [])) }
+        ensures ok { OnOk result (Grows (chronicle self.old).told (chronicle self.new).told
+            (record { pid = pid; count = count } ∷ [])) }
 
         // After an error the chronicle has what it had.
         ensures err { OnErr result ((chronicle self.new).told ≡ (chronicle self.old).told) }
@@ -38,7 +42,8 @@ pub struct SoundChronicle {
 impl SoundChronicle {
     /// A chronicle of no pair. It takes no memory.
     pub fn new(alloc: Global) -> Self
-        ensures { ⟦<SoundChronicle as Chronicle>⟧.chronicle result ≡ record { told = Some []; faults = 0; refusals = 0 } }
+        ensures { ⟦<SoundChronicle as Chronicle>⟧.chronicle result ≡
+            record { told = Some []; faults = 0; refusals = 0 } }
     {
         SoundChronicle {
             pairs: Items::new(alloc),
@@ -58,7 +63,8 @@ impl Chronicle for SoundChronicle {
     ghost chronicle = { λ s. record { told = Some s.pairs; faults = 0; refusals = s.refusals } };
 
     fn append(&mut self, pid: Pid, count: u32) -> Result<(), ChronicleError>
-        ensures ok { OnOk result (self.new ≡ record self.old { pairs = self.old.pairs ++ record { pid = pid; count = count } ∷ [] }) }
+        ensures ok { OnOk result (self.new ≡
+            record self.old { pairs = self.old.pairs ++ record { pid = pid; count = count } ∷ [] }) }
         ensures err { OnErr result (self.new.pairs ≡ self.old.pairs) }
         ensures never_fails { ¬ IsErrOf result ChronicleError.Fault }
         ensures memory { HasCause ChronicleError.NoMemory self.old.refusals self.new.refusals result }
@@ -83,7 +89,8 @@ pub struct MemChronicle {
 impl MemChronicle {
     /// A chronicle of no pair. It takes no memory.
     pub fn new(alloc: Global, failing: Bytes) -> Self
-        ensures fresh { ⟦<MemChronicle as Chronicle>⟧.chronicle result ≡ record { told = Some []; faults = 0; refusals = 0 } }
+        ensures fresh { ⟦<MemChronicle as Chronicle>⟧.chronicle result ≡
+            record { told = Some []; faults = 0; refusals = 0 } }
         ensures failing { result.failing ≡ record { numbers = failing; calls = 0; faults = 0 } }
     {
         MemChronicle {
@@ -106,7 +113,8 @@ impl Chronicle for MemChronicle {
     fn append(&mut self, pid: Pid, count: u32) -> Result<(), ChronicleError>
         ensures fails { result ≡ Err ChronicleError.Fault ↔ (is_due self.old.failing ≡ true) }
         ensures counted { self.new.failing ≡ after_call self.old.failing }
-        ensures ok { OnOk result (self.new.sound ≡ record self.old.sound { pairs = self.old.sound.pairs ++ record { pid = pid; count = count } ∷ [] }) }
+        ensures ok { OnOk result (self.new.sound ≡
+            record self.old.sound { pairs = self.old.sound.pairs ++ record { pid = pid; count = count } ∷ [] }) }
         ensures err { OnErr result (self.new.sound.pairs ≡ self.old.sound.pairs) }
         ensures fault { HasCause ChronicleError.Fault self.old.failing.faults self.new.failing.faults result }
         ensures memory { HasCause ChronicleError.NoMemory self.old.sound.refusals self.new.sound.refusals result }

@@ -11,20 +11,27 @@ use seq_words::{Bytes, NoMemory};
 use std::alloc::Global;
 use std::collections::BTreeMap;
 
+/// Why a shelf gives no content. A fault comes before the other errors.
 #[derive(Clone, Copy, Debug, PartialEq, Eq)]
 pub enum LoadError {
+    /// There is no file of that name.
     Absent,
+    /// The content has more bytes than the limit.
     TooLong,
+    /// A fault of the shelf.
     Failed,
     NoMemory,
 }
 
+/// Why a shelf doesn't store a content.
 #[derive(Clone, Copy, Debug, PartialEq, Eq)]
 pub enum StoreError {
+    /// A fault of the shelf.
     Failed,
     NoMemory,
 }
 
+/// A map from names to bytes.
 pub trait Shelf {
     /// The map, where it tells it, and the count of its faults.
     ghost shelf: { Self → ShelfView };
@@ -63,7 +70,7 @@ pub struct SoundShelf {
 impl SoundShelf {
     /// A shelf with no file. It takes no memory.
     pub fn new(alloc: Global) -> Self
-        ensures { (⟦<SoundShelf as Shelf>⟧.shelf result).told ≡ Some (λ name. None) }
+        ensures { ⟦<SoundShelf as Shelf>⟧.shelf result ≡ record { told = Some (λ name. None); faults = 0 } }
     {
         SoundShelf {
             alloc,
@@ -74,7 +81,8 @@ impl SoundShelf {
     /// Makes `bytes` the content of the file of that name.
     #[tactic(auto, using(std::proofs::lemmas::Map::Text::text_keys))]
     pub fn put(&mut self, name: &str, bytes: &[u8]) -> Result<(), NoMemory>
-        ensures ok { OnOk result (Stores (⟦<SoundShelf as Shelf>⟧.shelf self.old).told (⟦<SoundShelf as Shelf>⟧.shelf self.new).told name.now bytes.now) }
+        ensures ok { OnOk result
+            (Stores (⟦<SoundShelf as Shelf>⟧.shelf self.old).told (⟦<SoundShelf as Shelf>⟧.shelf self.new).told name.now bytes.now) }
         ensures err { OnErr result (Keeps (⟦<SoundShelf as Shelf>⟧.shelf self.old).told (⟦<SoundShelf as Shelf>⟧.shelf self.new).told) }
     {
         let Ok(key) = String::from_str(self.alloc, name) else {
@@ -89,7 +97,8 @@ impl SoundShelf {
 
     /// The content of the file of that name.
     pub fn get(&self, name: &str) -> Option<&[u8]>
-        ensures { IfSome (⟦<SoundShelf as Shelf>⟧.shelf self.now).told (λ map. option_copied result ≡ map name.now) }
+        ensures { IfSome (⟦<SoundShelf as Shelf>⟧.shelf self.now).told
+            (λ map. option_copied result ≡ map name.now) }
     {
         match self.files.get(name) {
             Some(content) => Some(content.as_slice()),
@@ -103,7 +112,8 @@ impl Shelf for SoundShelf {
 
     fn load(&mut self, name: &str, limit: u64) -> Result<Bytes, LoadError>
         ensures same { self.new ≡ self.old }
-        ensures loaded { result ≡ Err LoadError.NoMemory ⊎ result ≡ load_of (get_by_text self.old.files name.now) limit }
+        ensures loaded { result ≡ Err LoadError.NoMemory ⊎
+            result ≡ load_of (get_by_text self.old.files name.now) limit }
     {
         let Some(content) = self.get(name) else {
             return Err(LoadError::Absent);
@@ -118,8 +128,10 @@ impl Shelf for SoundShelf {
     }
 
     fn store(&mut self, name: &str, bytes: &[u8]) -> Result<(), StoreError>
-        ensures ok { OnOk result (Stores (Some (get_by_text self.old.files)) (Some (get_by_text self.new.files)) name.now bytes.now) }
-        ensures err { OnErr result (Keeps (Some (get_by_text self.old.files)) (Some (get_by_text self.new.files))) }
+        ensures ok { OnOk result
+            (Stores (Some (get_by_text self.old.files)) (Some (get_by_text self.new.files)) name.now bytes.now) }
+        ensures err { OnErr result
+            (Keeps (Some (get_by_text self.old.files)) (Some (get_by_text self.new.files))) }
         ensures never_fails { ¬ IsErrOf result StoreError.Failed }
     {
         match self.put(name, bytes) {
@@ -150,7 +162,8 @@ impl MemShelf {
 
     /// Makes `bytes` the content of the file of that name. It isn't a counted call.
     pub fn put(&mut self, name: &str, bytes: &[u8]) -> Result<(), NoMemory>
-        ensures ok { OnOk result (Stores (⟦<MemShelf as Shelf>⟧.shelf self.old).told (⟦<MemShelf as Shelf>⟧.shelf self.new).told name.now bytes.now) }
+        ensures ok { OnOk result
+            (Stores (⟦<MemShelf as Shelf>⟧.shelf self.old).told (⟦<MemShelf as Shelf>⟧.shelf self.new).told name.now bytes.now) }
         ensures err { OnErr result (Keeps (⟦<MemShelf as Shelf>⟧.shelf self.old).told (⟦<MemShelf as Shelf>⟧.shelf self.new).told) }
         ensures not_counted { self.new.failing ≡ self.old.failing }
     {
@@ -159,7 +172,8 @@ impl MemShelf {
 
     /// The content of the file of that name.
     pub fn get(&self, name: &str) -> Option<&[u8]>
-        ensures { IfSome (⟦<MemShelf as Shelf>⟧.shelf self.now).told (λ map. option_copied result ≡ map name.now) }
+        ensures { IfSome (⟦<MemShelf as Shelf>⟧.shelf self.now).told
+            (λ map. option_copied result ≡ map name.now) }
     {
         self.sound.get(name)
     }
@@ -173,7 +187,8 @@ impl Shelf for MemShelf {
         ensures counted { self.new.failing ≡ after_call self.old.failing }
         ensures same { self.new.sound ≡ self.old.sound }
         ensures loaded { is_due self.old.failing ≡ false →
-            result ≡ Err LoadError.NoMemory ⊎ result ≡ load_of (get_by_text self.old.sound.files name.now) limit }
+            result ≡ Err LoadError.NoMemory ⊎
+            result ≡ load_of (get_by_text self.old.sound.files name.now) limit }
         ensures fault { HasCause LoadError.Failed self.old.failing.faults self.new.failing.faults result }
     {
         if self.failing.fails() {
@@ -185,8 +200,11 @@ impl Shelf for MemShelf {
     fn store(&mut self, name: &str, bytes: &[u8]) -> Result<(), StoreError>
         ensures fails { result ≡ Err StoreError.Failed ↔ (is_due self.old.failing ≡ true) }
         ensures counted { self.new.failing ≡ after_call self.old.failing }
-        ensures ok { OnOk result (Stores (Some (get_by_text self.old.sound.files)) (Some (get_by_text self.new.sound.files)) name.now bytes.now) }
-        ensures err { OnErr result (Keeps (Some (get_by_text self.old.sound.files)) (Some (get_by_text self.new.sound.files))) }
+        ensures ok { OnOk result
+            (Stores (Some (get_by_text self.old.sound.files)) (Some (get_by_text self.new.sound.files))
+            name.now bytes.now) }
+        ensures err { OnErr result
+            (Keeps (Some (get_by_text self.old.sound.files)) (Some (get_by_text self.new.sound.files))) }
         ensures fault { HasCause StoreError.Failed self.old.failing.faults self.new.failing.faults result }
     {
         if self.failing.fails() {
