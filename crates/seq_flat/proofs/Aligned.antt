@@ -5,7 +5,7 @@ use Rattle.seq_words.specs.declared.regs.Regs.{Regs}
 use Rattle.seq_isa.specs.declared.instr.Instr.{Instr}
 use Rattle.seq_isa.specs.declared.instr.Instr.TheVariants.{Lui, Auipc, Jal, Jalr, Beq, Bne, Blt, Bge, Bltu, Bgeu, Lb, Lh, Lw, Lbu, Lhu, Sb, Sh, Sw, Addi, Slti, Sltiu, Xori, Ori, Andi, Slli, Srli, Srai, Add, Sub, Sll, Slt, Sltu, Xor, Srl, Sra, Or, And, Mul, Mulh, Mulhsu, Mulhu, Div, Divu, Rem, Remu, Fence, Ecall, Ebreak}
 use Rattle.seq_isa.specs.Decoded.{decode_of}
-use Rattle.seq_isa.specs.Meaning.{Bytes, Outcome, moves, call, trap, number_at, following, bits_of, gives, jumps, branches, loaded, loads, put, stores, outcome_of, outcome_if, outcome_in, outcome_at}
+use Rattle.seq_isa.specs.Meaning.{Bytes, Outcome, moves, call, trap, number_at, following, unsigned, gives, jumps, branches, loaded, loads, put, stores, outcome_of, outcome_if, outcome_in, outcome_at}
 
 abbrev pub IsAligned : Outcome → Type 0
 IsAligned (moves wrote store next) = next % 4 ≡ 0
@@ -29,7 +29,7 @@ jumps_aligned r rd target h = if_aligned (target % 4 == 0) _ _ (λ e. eqb-true (
 
 branches_aligned : (r : Regs) (taken : Bool) (offset : ℤ) → r.pc % 4 ≡ 0 → IsAligned (branches r taken offset)
 unfolding branches
-branches_aligned r taken offset h = if_aligned taken _ _ (λ _. if_aligned ((r.pc + bits_of offset) % 2 ^ 32 % 4 == 0) _ _ (λ e. eqb-true ((r.pc + bits_of offset) % 2 ^ 32 % 4) 0 e) tt) (following_aligned r h)
+branches_aligned r taken offset h = if_aligned taken _ _ (λ _. if_aligned ((r.pc + unsigned offset) % 2 ^ 32 % 4 == 0) _ _ (λ e. eqb-true ((r.pc + unsigned offset) % 2 ^ 32 % 4) 0 e) tt) (following_aligned r h)
 
 loaded_aligned : (r : Regs) (rd : ℕ) (extend : ℕ → ℕ) (o : Option ℕ) → r.pc % 4 ≡ 0 → IsAligned (loaded r rd extend o)
 loaded_aligned r rd extend (Some n) h = gives_aligned r rd (extend n) h
@@ -45,7 +45,7 @@ put_aligned r at width value None h = tt
 
 stores_aligned : (r : Regs) (bytes : Bytes) (at width value : ℕ) → r.pc % 4 ≡ 0 → IsAligned (stores r bytes at width value)
 unfolding stores
-stores_aligned r bytes at width value h = if_aligned (at % width == 0) _ _ (λ _. put_aligned r at width value (number_at bytes at width) h) tt
+stores_aligned r bytes at width value h = if_aligned (at % width == 0) _ _ (λ _. put_aligned r at width _ (number_at bytes at width) h) tt
 
 outcome_aligned : (r : Regs) (bytes : Bytes) (i : Instr) → r.pc % 4 ≡ 0 → IsAligned (outcome_of r bytes i)
 unfolding outcome_of
