@@ -1,0 +1,70 @@
+ghost use Rattle.std.specs.Prelude.{◌≡◌, ℕ, Some, ◌<◌, ◌^◌, ◌==◌, true, not, ◌&&◌, ◌||◌, nat_lt, length};
+ghost use Rattle.std.specs.List.{list_all};
+ghost use Rattle.std.specs.Option.{option_map};
+ghost use Rattle.std.specs.Str.Parse.{digits_value};
+ghost use Rattle.seq_text.specs.Numbers.{is_digit, is_number, number_of, capped};
+
+/// What a number is read as that is this large or larger. It is above every limit.
+pub const TOO_LARGE: u64 = 1_000_000_000_000_000_000;
+
+// The most digits of a number below that.
+const DIGITS: usize = 18;
+
+fn is_digit(byte: u8) -> bool
+    ensures { result ≡ is_digit byte }
+{
+    byte.is_ascii_digit()
+}
+
+fn are_digits(word: &[u8]) -> bool
+    ensures { result ≡ list_all is_digit word.now }
+{
+    word.iter().all(|byte| is_digit(*byte))
+}
+
+fn is_number(word: &[u8]) -> bool
+    ensures { result ≡ is_number word.now }
+{
+    are_digits(word) && !word.is_empty() && (word.len() < 2 || word[0] != b'0')
+}
+
+fn value(word: &[u8]) -> u64
+    requires digits { is_number word.now ≡ true }
+    requires few { length word.now < 19 }
+    ensures value { result ≡ digits_value 10 word.now }
+    ensures small { result < 10 ^ 18 }
+{
+    let mut value = 0;
+    for byte in word {
+        value = value * 10 + u64::from(*byte - b'0');
+    }
+    value
+}
+
+/// The number that a word writes in decimal digits, without sign and without leading zeros, however many there are.
+pub fn number(word: &[u8]) -> Option<u64>
+    ensures { result ≡ option_map capped (number_of word.now) }
+{
+    if !is_number(word) {
+        None
+    } else if word.len() > DIGITS {
+        Some(TOO_LARGE)
+    } else {
+        Some(value(word))
+    }
+}
+
+/// Whether a number is smaller than another, however large they are. It is meant for words that write numbers.
+pub fn is_below(a: &[u8], b: &[u8]) -> bool
+    ensures { (m n : ℕ) → number_of a.now ≡ Some m → number_of b.now ≡ Some n → result ≡ nat_lt m n }
+{
+    if a.len() != b.len() {
+        return a.len() < b.len();
+    }
+    for at in 0..a.len() {
+        if a[at] != b[at] {
+            return a[at] < b[at];
+        }
+    }
+    false
+}
