@@ -1,5 +1,5 @@
 -- The calls that are to fail.
-use Rattle.std.specs.Prelude.{ℕ, Bool, ◌==◌, if◌then◌else◌}
+use Rattle.std.specs.Prelude.{Bool, ◌==◌, if◌then◌else◌}
 use Rattle.std.specs.List.{list_any}
 use Rattle.seq_shelf.specs.Causes.{one_more}
 use Rattle.seq_shelf.specs.declared.failing.Failing.{Failing}

@@ -1,7 +1,7 @@
 // A chronicle: a list of pairs, which can't be read through the trait.
-ghost use Rattle.std.specs.Prelude.{◌≡◌, ◌↔◌, ◌++◌, ℕ, List, [], ◌∷◌, OnOk, OnErr, IsErrOf, Some, true};
+ghost use Rattle.std.specs.Prelude.{◌≡◌, ◌↔◌, ◌++◌, [], ◌∷◌, OnOk, OnErr, IsErrOf, Some, true};
 ghost use Rattle.seq_shelf.specs.Calls.{is_due, after_call};
-ghost use Rattle.seq_shelf.specs.Causes.{Rose, HasCause};
+ghost use Rattle.seq_shelf.specs.Causes.{HasCause};
 ghost use Rattle.seq_shelf.specs.Told.{Grows, ChronicleView};
 
 use crate::failing::Failing;

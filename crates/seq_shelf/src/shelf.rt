@@ -1,8 +1,8 @@
 // A shelf: a map from names to bytes.
-ghost use Rattle.std.specs.Prelude.{◌≡◌, ◌↔◌, ◌⊎◌, ◌<◌, ◌≤◌, ℕ, List, [], length, OnOk, OnErr, IfOk, IsErrOf, IfSome, Option, Some, None, true, false, Ok, Err, ◌∷◌};
+ghost use Rattle.std.specs.Prelude.{◌≡◌, ◌↔◌, ◌⊎◌, ◌<◌, ◌≤◌, ℕ, List, length, OnOk, OnErr, IfOk, IsErrOf, IfSome, Some, None, true, false, Ok, Err};
 ghost use Rattle.std.specs.BTreeMap.{get_by_text};
 ghost use Rattle.std.specs.Option.{option_copied};
-ghost use Rattle.seq_shelf.specs.Causes.{Rose, HasCause, AnswersUnlessFailed};
+ghost use Rattle.seq_shelf.specs.Causes.{HasCause, AnswersUnlessFailed};
 ghost use Rattle.seq_shelf.specs.Calls.{is_due, after_call};
 ghost use Rattle.seq_shelf.specs.Told.{load_of, Map, Stores, Keeps, KeepsOthers, ShelfView};
 
@@ -70,7 +70,8 @@ pub struct SoundShelf {
 impl SoundShelf {
     /// A shelf with no file. It takes no memory.
     pub fn new(alloc: Global) -> Self
-        ensures { ⟦<SoundShelf as Shelf>⟧.shelf result ≡ record { told = Some (λ name. None); faults = 0 } }
+        ensures { ⟦<SoundShelf as Shelf>⟧.shelf result ≡
+            record { told = Some (λ name. None); faults = 0 } }
     {
         SoundShelf {
             alloc,
@@ -82,8 +83,10 @@ impl SoundShelf {
     #[tactic(auto, using(std::proofs::lemmas::Map::Text::text_keys))]
     pub fn put(&mut self, name: &str, bytes: &[u8]) -> Result<(), NoMemory>
         ensures ok { OnOk result
-            (Stores (⟦<SoundShelf as Shelf>⟧.shelf self.old).told (⟦<SoundShelf as Shelf>⟧.shelf self.new).told name.now bytes.now) }
-        ensures err { OnErr result (Keeps (⟦<SoundShelf as Shelf>⟧.shelf self.old).told (⟦<SoundShelf as Shelf>⟧.shelf self.new).told) }
+            (Stores (⟦<SoundShelf as Shelf>⟧.shelf self.old).told
+            (⟦<SoundShelf as Shelf>⟧.shelf self.new).told name.now bytes.now) }
+        ensures err { OnErr result
+            (Keeps (⟦<SoundShelf as Shelf>⟧.shelf self.old).told (⟦<SoundShelf as Shelf>⟧.shelf self.new).told) }
     {
         let Ok(key) = String::from_str(self.alloc, name) else {
             return Err(NoMemory);
@@ -151,7 +154,8 @@ pub struct MemShelf {
 impl MemShelf {
     /// A shelf with no file. It takes no memory.
     pub fn new(alloc: Global, failing: Bytes) -> Self
-        ensures fresh { ⟦<MemShelf as Shelf>⟧.shelf result ≡ record { told = Some (λ name. None); faults = 0 } }
+        ensures fresh { ⟦<MemShelf as Shelf>⟧.shelf result ≡
+            record { told = Some (λ name. None); faults = 0 } }
         ensures failing { result.failing ≡ record { numbers = failing; calls = 0; faults = 0 } }
     {
         MemShelf {
@@ -163,8 +167,10 @@ impl MemShelf {
     /// Makes `bytes` the content of the file of that name. It isn't a counted call.
     pub fn put(&mut self, name: &str, bytes: &[u8]) -> Result<(), NoMemory>
         ensures ok { OnOk result
-            (Stores (⟦<MemShelf as Shelf>⟧.shelf self.old).told (⟦<MemShelf as Shelf>⟧.shelf self.new).told name.now bytes.now) }
-        ensures err { OnErr result (Keeps (⟦<MemShelf as Shelf>⟧.shelf self.old).told (⟦<MemShelf as Shelf>⟧.shelf self.new).told) }
+            (Stores (⟦<MemShelf as Shelf>⟧.shelf self.old).told
+            (⟦<MemShelf as Shelf>⟧.shelf self.new).told name.now bytes.now) }
+        ensures err { OnErr result
+            (Keeps (⟦<MemShelf as Shelf>⟧.shelf self.old).told (⟦<MemShelf as Shelf>⟧.shelf self.new).told) }
         ensures not_counted { self.new.failing ≡ self.old.failing }
     {
         self.sound.put(name, bytes)
