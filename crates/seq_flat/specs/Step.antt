@@ -54,10 +54,10 @@ step_or_wait rights inputs f p =
     if nat_lt p (length f.processes) && is_live (process_at f p).end then performed (rights_at rights p) inputs f p (outcome f p)
     else Err Ended
 
--- a step that can't be made says what the process waits for; want of memory says nothing
+-- a step that can't be made says what the process waits for; memory is wanting only for a step that can be made
 abbrev pub Refuses : Result FlatState Waits → StepError → Type 0
 Refuses stepped (Waiting w) = stepped ≡ Err w
-Refuses stepped NoMemory = Unit {0}
+Refuses stepped NoMemory = IsOk stepped
 
 -- the state after a step, and none where the process isn't enabled
 abbrev pub ok_of : Result FlatState Waits → Option FlatState

@@ -1,0 +1,9 @@
+pub mod Rows
+pub mod Texts
+pub mod Openings
+pub mod Described
+pub mod Sends
+pub mod Going
+pub mod Runs
+pub mod Sound
+pub mod Tops

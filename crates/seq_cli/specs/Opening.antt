@@ -1,0 +1,106 @@
+-- What the words and the files ask for: an answer before any run, or a run.
+use Rattle.std.specs.Prelude.{◌≡◌, ℕ, Bool, false, not, ◌&&◌, ◌==◌, if◌then◌else◌, nat_lt, Option, Some, None, List, [], ◌∷◌, length, codes, slice_set, slice_index_or}
+use Rattle.std.specs.Str.{bytes_eq}
+use Rattle.seq_words.specs.declared.description.MachineDesc.{MachineDesc}
+use Rattle.seq_words.specs.declared.description.ProcessDesc.{ProcessDesc}
+use Rattle.seq_words.specs.declared.events.Event.{Event}
+use Rattle.seq_shelf.specs.Told.{Map}
+use Rattle.seq_loader.specs.declared.image.Image.{Image}
+use Rattle.seq_loader.specs.Image.{Spells}
+use Rattle.seq_loader.specs.Faults.{first_fault}
+use Rattle.seq_cli.specs.declared.description.Draft.{Draft}
+use Rattle.seq_cli.specs.declared.status.Status.{Status}
+use Rattle.seq_cli.specs.declared.status.Status.TheVariants.{Done, Usage, Refused, Absent, ShelfFault, ChronicleFault, LineFault, NoMemory}
+use Rattle.seq_cli.specs.Description.{Describes, description_fault}
+use Rattle.seq_cli.specs.Schedule.{schedule_of}
+
+pub data Opening : Type 0 where
+  -- the words are no form of a command
+  usage : Opening
+  -- there is no file with this number
+  absent : ℕ → Opening
+  -- a file's first violated rule: the file's number, the place, the rule
+  refused : ℕ → ℕ → ℕ → Opening
+  -- a run of these events on this machine
+  ready : MachineDesc → List Event → Opening
+
+-- a word that isn't empty and doesn't begin with `-`
+abbrev pub is_name : List ℕ → Bool
+is_name [] = false
+is_name (first ∷ rest) = not (first == 45)
+
+-- run MACHINE SCHEDULE
+abbrev pub form_of : List (List ℕ) → Option (List ℕ × List ℕ)
+form_of (command ∷ machine ∷ schedule ∷ []) =
+    if bytes_eq command (codes "run") && is_name machine && is_name schedule then Some (machine, schedule) else None
+form_of words = None
+
+-- the most bytes of a file
+abbrev pub file_limit : ℕ
+file_limit = 268435456
+
+-- place and number of a file's first violated rule: rule 1 above the limit, else its grammar's
+abbrev pub file_fault : (List ℕ → Option (ℕ × ℕ)) → List ℕ → Option (ℕ × ℕ)
+file_fault fault text = if nat_lt file_limit (length text) then Some (file_limit, 1) else fault text
+
+-- What a file asks for, by its number, its grammar (the first violated rule of a text, and its values), what comes next, and its content.
+abbrev pub OpensText : {A : Type 0} → ℕ → Option (ℕ × ℕ) → (A → Type 0) → (A → Opening → Type 0) → Opening → Type 0
+OpensText file (Some fault) Spelled next o = o ≡ refused file fault.0 fault.1
+OpensText {A} file None Spelled next o = (value : A) × Spelled value × next value o
+
+abbrev pub OpensFile : {A : Type 0} → ℕ → (List ℕ → Option (ℕ × ℕ)) → (List ℕ → A → Type 0) → (A → Opening → Type 0) → Option (List ℕ) → Opening → Type 0
+OpensFile file fault Spelled next None o = o ≡ absent file
+OpensFile file fault Spelled next (Some text) o = OpensText file (file_fault fault text) (Spelled text) next o
+
+-- process p of the description runs this image
+abbrev pub no_process : ProcessDesc
+no_process = record { size = 0; entry = 0; image = []; lines = 0; grants = 0 }
+
+abbrev pub with_image : MachineDesc → ℕ → Image → MachineDesc
+with_image d p i = record d { processes = slice_set d.processes p (record (slice_index_or d.processes p no_process) { size = i.size; entry = i.entry; image = i.bytes }) }
+
+-- the schedule's grammar
+abbrev pub fault_unless : Option (List Event) → Option (ℕ × ℕ)
+fault_unless (Some events) = None
+fault_unless None = Some (0, 0)
+
+abbrev pub schedule_fault : List ℕ → Option (ℕ × ℕ)
+schedule_fault text = fault_unless (schedule_of text)
+
+abbrev pub Schedules : List ℕ → List Event → Type 0
+Schedules text events = schedule_of text ≡ Some events
+
+-- the files in their order: the machine, its image, the schedule
+abbrev pub OpensSchedule : MachineDesc → List Event → Opening → Type 0
+OpensSchedule d events o = o ≡ ready d events
+
+abbrev pub OpensImage : Map → List ℕ → Draft → Image → Opening → Type 0
+OpensImage map schedule draft i o = OpensFile 2 schedule_fault Schedules (OpensSchedule (with_image draft.desc 0 i)) (map schedule) o
+
+abbrev pub OpensMachine : Map → List ℕ → Draft → Opening → Type 0
+OpensMachine map schedule draft o = OpensFile 1 first_fault Spells (OpensImage map schedule draft) (map (slice_index_or draft.images 0 [])) o
+
+abbrev pub OpensForm : Map → Option (List ℕ × List ℕ) → Opening → Type 0
+OpensForm map None o = o ≡ usage
+OpensForm map (Some form) o = OpensFile 0 description_fault Describes (OpensMachine map form.1) (map form.0) o
+
+-- With these words, and these files on the shelf, this is asked for.
+abbrev pub Opens : List (List ℕ) → Map → Opening → Type 0
+Opens words map o = OpensForm map (form_of words) o
+
+-- A run of events on a machine is asked for.
+pub record AsksRun (Asked : Opening → Type 0) : Type 0 where
+  pub desc : MachineDesc
+  pub events : List Event
+  pub asked : Asked (ready desc events)
+
+-- A status is given only where it is asked for: of want of memory and a fault of the shelf nothing is said here.
+abbrev pub Answers : (Opening → Type 0) → Status → Type 0
+Answers Asked Usage = Asked usage
+Answers Asked (Absent file) = Asked (absent file)
+Answers Asked (Refused file place rule) = Asked (refused file place rule)
+Answers Asked Done = AsksRun Asked
+Answers Asked ChronicleFault = AsksRun Asked
+Answers Asked (LineFault line) = AsksRun Asked
+Answers Asked ShelfFault = Unit {0}
+Answers Asked NoMemory = Unit {0}

@@ -1,0 +1,12 @@
+//! The top call of the program: what the words and the files ask for, the run, and the status with which it ends.
+#![tactic(auto)]
+
+mod description;
+mod opening;
+mod plain;
+mod schedule;
+mod status;
+mod top;
+
+pub use status::{Status, number};
+pub use top::{add_line, sequoia};

@@ -1,0 +1,92 @@
+// The top call: all that the program does.
+ghost use Rattle.std.specs.Prelude.{◌≡◌, ◌↔◌, ◌≤◌, ℕ, List, [], length, Some, None, false, map as list_map, string_bytes, OnOk, ◌+◌, ◌⊎◌};
+ghost use Rattle.seq_shelf.specs.Causes.{Rose};
+ghost use Rattle.seq_shelf.specs.Outlets.{views, marks};
+ghost use Rattle.seq_shelf.specs.Told.{Map};
+ghost use Rattle.seq_cli.specs.Lines.{line_at, AreFresh};
+ghost use Rattle.seq_cli.specs.Opening.{form_of, Opens, Answers, AsksRun};
+ghost use Rattle.seq_cli.specs.Top.{Releases, Runs};
+
+use crate::Status;
+use crate::opening::{open, read_form};
+use crate::plain::PlainMachine;
+use seq_shelf::{Chronicle, Line, Outlet, Shelf, Sink};
+use seq_words::NoMemory;
+use std::alloc::Global;
+
+/// Does what the words ask for: it loads the files, runs the machine, and answers how that ended.
+///
+/// `words` are those after the program's name. The files are looked at in their order: the machine, its image, the
+/// schedule; each is loaded and read before the next. Line l of the machine is entry l of `lines`.
+pub fn sequoia<S: Shelf, K: Sink, C: Chronicle>(
+    alloc: Global,
+    words: &[String],
+    shelf: &mut S,
+    lines: &mut Vec<Outlet>,
+    chronicle: &mut C,
+    sink: &mut K,
+) -> Status
+    requires sixteen { length lines.old.items ≡ 16 }
+    requires fresh { AreFresh (views line lines.old.items) (marks lines.old.items) }
+
+    // Under every status: the released bytes are a prefix of the flat output along the appended history.
+    ensures released { Releases (list_map string_bytes words.now) (S.shelf shelf.old).told
+        (C.chronicle chronicle.old).told (C.chronicle chronicle.new).told
+        (views line lines.old.items) (views line lines.new.items) }
+
+    // History and bytes are exactly those of the two turn rules.
+    ensures runs { Runs (list_map string_bytes words.now) (S.shelf shelf.old).told result
+        (C.chronicle chronicle.old).told (C.chronicle chronicle.new).told
+        (views line lines.old.items) (views line lines.new.items) }
+
+    // Each status has its cause.
+    ensures usage { result ≡ Status.Usage ↔ (form_of (list_map string_bytes words.now) ≡ None) }
+    ensures answers { (m : Map) → (S.shelf shelf.old).told ≡ Some m →
+        Answers (Opens (list_map string_bytes words.now) m) result }
+    ensures shelf_fault { result ≡ Status.ShelfFault → Rose (S.shelf shelf.old).faults (S.shelf shelf.new).faults }
+    ensures chronicle_fault { result ≡ Status.ChronicleFault → Rose (C.chronicle chronicle.old).faults (C.chronicle chronicle.new).faults }
+    ensures line_fault { (l : _) → result ≡ Status.LineFault l →
+        Rose (line_at (views line lines.old.items) l.0).faults (line_at (views line lines.new.items) l.0).faults }
+
+    // Where a run is asked for and no count rises, it comes to its end, unless memory is wanting.
+    ensures complete { (m : Map) → (S.shelf shelf.old).told ≡ Some m → AsksRun (Opens (list_map string_bytes words.now) m)
+        → ¬ Rose (S.shelf shelf.old).faults (S.shelf shelf.new).faults
+        → ¬ Rose (C.chronicle chronicle.old).faults (C.chronicle chronicle.new).faults
+        → ((l : ℕ) → ¬ Rose (line_at (views line lines.old.items) l).faults (line_at (views line lines.new.items) l).faults)
+        → (result ≡ Status.Done) ⊎ (result ≡ Status.NoMemory) }
+
+    // What it leaves alone.
+    ensures shelf { (S.shelf shelf.new).told ≡ (S.shelf shelf.old).told }
+    ensures sink { K.sink sink.new ≡ K.sink sink.old }
+    ensures hung { marks lines.new.items ≡ marks lines.old.items }
+{
+    let (machine, schedule) = match read_form(words) {
+        Some(form) => form,
+        None => return Status::Usage,
+    };
+    let loaded = match open(alloc, shelf, machine, schedule) {
+        Ok(loaded) => loaded,
+        Err(status) => return status,
+    };
+    match PlainMachine::new(alloc, loaded.desc) {
+        Ok(mut plain) => plain.run(loaded.events.as_slice(), lines, chronicle),
+        Err(_) => Status::NoMemory,
+    }
+}
+
+/// Adds a line that has accepted nothing.
+pub fn add_line(lines: &mut Vec<Outlet>, boxed: Box<dyn Line>) -> Result<(), NoMemory>
+    requires fresh { (line boxed).count ≡ 0 }
+    requires all_fresh { AreFresh (views (λ z. (⟦<dyn Line as Line>⟧ z.0).line z.1) lines.old.items) (marks lines.old.items) }
+    ensures number { OnOk result (length lines.new.items ≡ length lines.old.items + 1) }
+    ensures all_fresh { AreFresh (views (λ z. (⟦<dyn Line as Line>⟧ z.0).line z.1) lines.new.items) (marks lines.new.items) }
+{
+    let outlet = Outlet {
+        line: boxed,
+        hung: false,
+    };
+    match lines.push(outlet) {
+        Ok(()) => Ok(()),
+        Err(_) => Err(NoMemory),
+    }
+}
