@@ -3,7 +3,7 @@ ghost use Rattle.std.specs.Prelude.{◌<◌};
 
 use crate::{
     Instr, decode, decode_encoded, encode, encode_decoded, listing_is_function,
-    one_instruction_a_word, one_word_an_instruction,
+    one_instruction_a_word, one_word_an_instruction, pc_stays_aligned,
 };
 use std::test::Fail;
 
@@ -322,6 +322,7 @@ fn words_of_another_assembler(rt: HostRuntime) -> Result<(), Fail> {
     listing_is_function();
     one_instruction_a_word();
     one_word_an_instruction();
+    pc_stays_aligned();
     Ok(())
 }
 
