@@ -1,8 +1,8 @@
-//! Laws of the listing, over every word and every instruction. The functions do nothing: what they say is in their contracts.
+//! Laws of the listing and of the meaning, over every word and every instruction, each as the contract of a function.
 ghost use Rattle.std.specs.Prelude.{◌≡◌, ℕ, ◌<◌, ◌^◌, IsSome, IsNone, Some, None};
 ghost use Rattle.seq_isa.specs.InRange.{InRange};
 ghost use Rattle.seq_isa.specs.Decoded.{decode_of};
-ghost use Rattle.seq_isa.specs.Laws.{OneInstruction, ExactlyOneWord, DecodesListing};
+ghost use Rattle.seq_isa.specs.Laws.{OneInstruction, ExactlyOneWord, DecodesListing, StaysAligned};
 
 use crate::{Instr, decode, encode};
 
@@ -22,6 +22,12 @@ pub fn one_word_an_instruction()
 #[tactic(auto, using(crate::proofs::Agreed::listing_is_function))]
 pub fn listing_is_function()
     ensures { DecodesListing }
+{}
+
+/// After an instruction at a pc that is a multiple of four, pc is one again.
+#[tactic(auto, using(crate::proofs::Alignment::outcome_aligned))]
+pub fn pc_stays_aligned()
+    ensures { StaysAligned }
 {}
 
 /// Encodes an instruction and decodes its word, which gives the instruction again.

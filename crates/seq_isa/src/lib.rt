@@ -1,4 +1,4 @@
-//! RV32IM instructions and their words.
+//! The instructions of RV32IM: their words, by the manual's listing, and in `specs/Meaning.antt` what each one does.
 #![tactic(auto)]
 
 mod decoding;
@@ -15,5 +15,5 @@ pub use encoding::encode;
 pub use instr::Instr;
 pub use laws::{
     decode_encoded, encode_decoded, listing_is_function, one_instruction_a_word,
-    one_word_an_instruction,
+    one_word_an_instruction, pc_stays_aligned,
 };

@@ -3,1099 +3,169 @@ ghost use Rattle.std.specs.Prelude.{◌<◌};
 
 use crate::{
     Instr, decode, decode_encoded, encode, encode_decoded, listing_is_function,
-    one_instruction_a_word, one_word_an_instruction,
+    one_instruction_a_word, one_word_an_instruction, pc_stays_aligned,
 };
 use std::test::Fail;
 
-/// Each row at the low end of its ranges, with the word that LLVM assembles.
-const LOW: [(Instr, u32); 48] = [
-    (Instr::Lui { rd: 0, imm: 0x0 }, 0x0000_0037),
-    (Instr::Auipc { rd: 0, imm: 0x0 }, 0x0000_0017),
-    (
-        Instr::Jal {
-            rd: 0,
-            offset: -1048576,
-        },
-        0x8000_006f,
-    ),
-    (
-        Instr::Jalr {
-            rd: 0,
-            rs1: 0,
-            imm: -2048,
-        },
-        0x8000_0067,
-    ),
-    (
-        Instr::Beq {
-            rs1: 0,
-            rs2: 0,
-            offset: -4096,
-        },
-        0x8000_0063,
-    ),
-    (
-        Instr::Bne {
-            rs1: 0,
-            rs2: 0,
-            offset: -4096,
-        },
-        0x8000_1063,
-    ),
-    (
-        Instr::Blt {
-            rs1: 0,
-            rs2: 0,
-            offset: -4096,
-        },
-        0x8000_4063,
-    ),
-    (
-        Instr::Bge {
-            rs1: 0,
-            rs2: 0,
-            offset: -4096,
-        },
-        0x8000_5063,
-    ),
-    (
-        Instr::Bltu {
-            rs1: 0,
-            rs2: 0,
-            offset: -4096,
-        },
-        0x8000_6063,
-    ),
-    (
-        Instr::Bgeu {
-            rs1: 0,
-            rs2: 0,
-            offset: -4096,
-        },
-        0x8000_7063,
-    ),
-    (
-        Instr::Lb {
-            rd: 0,
-            rs1: 0,
-            imm: -2048,
-        },
-        0x8000_0003,
-    ),
-    (
-        Instr::Lh {
-            rd: 0,
-            rs1: 0,
-            imm: -2048,
-        },
-        0x8000_1003,
-    ),
-    (
-        Instr::Lw {
-            rd: 0,
-            rs1: 0,
-            imm: -2048,
-        },
-        0x8000_2003,
-    ),
-    (
-        Instr::Lbu {
-            rd: 0,
-            rs1: 0,
-            imm: -2048,
-        },
-        0x8000_4003,
-    ),
-    (
-        Instr::Lhu {
-            rd: 0,
-            rs1: 0,
-            imm: -2048,
-        },
-        0x8000_5003,
-    ),
-    (
-        Instr::Sb {
-            rs1: 0,
-            rs2: 0,
-            imm: -2048,
-        },
-        0x8000_0023,
-    ),
-    (
-        Instr::Sh {
-            rs1: 0,
-            rs2: 0,
-            imm: -2048,
-        },
-        0x8000_1023,
-    ),
-    (
-        Instr::Sw {
-            rs1: 0,
-            rs2: 0,
-            imm: -2048,
-        },
-        0x8000_2023,
-    ),
-    (
-        Instr::Addi {
-            rd: 0,
-            rs1: 0,
-            imm: -2048,
-        },
-        0x8000_0013,
-    ),
-    (
-        Instr::Slti {
-            rd: 0,
-            rs1: 0,
-            imm: -2048,
-        },
-        0x8000_2013,
-    ),
-    (
-        Instr::Sltiu {
-            rd: 0,
-            rs1: 0,
-            imm: -2048,
-        },
-        0x8000_3013,
-    ),
-    (
-        Instr::Xori {
-            rd: 0,
-            rs1: 0,
-            imm: -2048,
-        },
-        0x8000_4013,
-    ),
-    (
-        Instr::Ori {
-            rd: 0,
-            rs1: 0,
-            imm: -2048,
-        },
-        0x8000_6013,
-    ),
-    (
-        Instr::Andi {
-            rd: 0,
-            rs1: 0,
-            imm: -2048,
-        },
-        0x8000_7013,
-    ),
-    (
-        Instr::Slli {
-            rd: 0,
-            rs1: 0,
-            amount: 0,
-        },
-        0x0000_1013,
-    ),
-    (
-        Instr::Srli {
-            rd: 0,
-            rs1: 0,
-            amount: 0,
-        },
-        0x0000_5013,
-    ),
-    (
-        Instr::Srai {
-            rd: 0,
-            rs1: 0,
-            amount: 0,
-        },
-        0x4000_5013,
-    ),
-    (
-        Instr::Add {
-            rd: 0,
-            rs1: 0,
-            rs2: 0,
-        },
-        0x0000_0033,
-    ),
-    (
-        Instr::Sub {
-            rd: 0,
-            rs1: 0,
-            rs2: 0,
-        },
-        0x4000_0033,
-    ),
-    (
-        Instr::Sll {
-            rd: 0,
-            rs1: 0,
-            rs2: 0,
-        },
-        0x0000_1033,
-    ),
-    (
-        Instr::Slt {
-            rd: 0,
-            rs1: 0,
-            rs2: 0,
-        },
-        0x0000_2033,
-    ),
-    (
-        Instr::Sltu {
-            rd: 0,
-            rs1: 0,
-            rs2: 0,
-        },
-        0x0000_3033,
-    ),
-    (
-        Instr::Xor {
-            rd: 0,
-            rs1: 0,
-            rs2: 0,
-        },
-        0x0000_4033,
-    ),
-    (
-        Instr::Srl {
-            rd: 0,
-            rs1: 0,
-            rs2: 0,
-        },
-        0x0000_5033,
-    ),
-    (
-        Instr::Sra {
-            rd: 0,
-            rs1: 0,
-            rs2: 0,
-        },
-        0x4000_5033,
-    ),
-    (
-        Instr::Or {
-            rd: 0,
-            rs1: 0,
-            rs2: 0,
-        },
-        0x0000_6033,
-    ),
-    (
-        Instr::And {
-            rd: 0,
-            rs1: 0,
-            rs2: 0,
-        },
-        0x0000_7033,
-    ),
-    (
-        Instr::Mul {
-            rd: 0,
-            rs1: 0,
-            rs2: 0,
-        },
-        0x0200_0033,
-    ),
-    (
-        Instr::Mulh {
-            rd: 0,
-            rs1: 0,
-            rs2: 0,
-        },
-        0x0200_1033,
-    ),
-    (
-        Instr::Mulhsu {
-            rd: 0,
-            rs1: 0,
-            rs2: 0,
-        },
-        0x0200_2033,
-    ),
-    (
-        Instr::Mulhu {
-            rd: 0,
-            rs1: 0,
-            rs2: 0,
-        },
-        0x0200_3033,
-    ),
-    (
-        Instr::Div {
-            rd: 0,
-            rs1: 0,
-            rs2: 0,
-        },
-        0x0200_4033,
-    ),
-    (
-        Instr::Divu {
-            rd: 0,
-            rs1: 0,
-            rs2: 0,
-        },
-        0x0200_5033,
-    ),
-    (
-        Instr::Rem {
-            rd: 0,
-            rs1: 0,
-            rs2: 0,
-        },
-        0x0200_6033,
-    ),
-    (
-        Instr::Remu {
-            rd: 0,
-            rs1: 0,
-            rs2: 0,
-        },
-        0x0200_7033,
-    ),
-    (Instr::Ecall, 0x0000_0073),
-    (Instr::Ebreak, 0x0010_0073),
-    (Instr::Fence { word: 0x0000_000f }, 0x0000_000f),
+/// The words that LLVM assembles for each row at the low end of its ranges, with the text of the instruction.
+const LOW: [(u32, &str); 48] = [
+    (0x0000_0037, "Lui { rd: 0, imm: 0 }"),
+    (0x0000_0017, "Auipc { rd: 0, imm: 0 }"),
+    (0x8000_006f, "Jal { rd: 0, offset: -1048576 }"),
+    (0x8000_0067, "Jalr { rd: 0, rs1: 0, imm: -2048 }"),
+    (0x8000_0063, "Beq { rs1: 0, rs2: 0, offset: -4096 }"),
+    (0x8000_1063, "Bne { rs1: 0, rs2: 0, offset: -4096 }"),
+    (0x8000_4063, "Blt { rs1: 0, rs2: 0, offset: -4096 }"),
+    (0x8000_5063, "Bge { rs1: 0, rs2: 0, offset: -4096 }"),
+    (0x8000_6063, "Bltu { rs1: 0, rs2: 0, offset: -4096 }"),
+    (0x8000_7063, "Bgeu { rs1: 0, rs2: 0, offset: -4096 }"),
+    (0x8000_0003, "Lb { rd: 0, rs1: 0, imm: -2048 }"),
+    (0x8000_1003, "Lh { rd: 0, rs1: 0, imm: -2048 }"),
+    (0x8000_2003, "Lw { rd: 0, rs1: 0, imm: -2048 }"),
+    (0x8000_4003, "Lbu { rd: 0, rs1: 0, imm: -2048 }"),
+    (0x8000_5003, "Lhu { rd: 0, rs1: 0, imm: -2048 }"),
+    (0x8000_0023, "Sb { rs1: 0, rs2: 0, imm: -2048 }"),
+    (0x8000_1023, "Sh { rs1: 0, rs2: 0, imm: -2048 }"),
+    (0x8000_2023, "Sw { rs1: 0, rs2: 0, imm: -2048 }"),
+    (0x8000_0013, "Addi { rd: 0, rs1: 0, imm: -2048 }"),
+    (0x8000_2013, "Slti { rd: 0, rs1: 0, imm: -2048 }"),
+    (0x8000_3013, "Sltiu { rd: 0, rs1: 0, imm: -2048 }"),
+    (0x8000_4013, "Xori { rd: 0, rs1: 0, imm: -2048 }"),
+    (0x8000_6013, "Ori { rd: 0, rs1: 0, imm: -2048 }"),
+    (0x8000_7013, "Andi { rd: 0, rs1: 0, imm: -2048 }"),
+    (0x0000_1013, "Slli { rd: 0, rs1: 0, amount: 0 }"),
+    (0x0000_5013, "Srli { rd: 0, rs1: 0, amount: 0 }"),
+    (0x4000_5013, "Srai { rd: 0, rs1: 0, amount: 0 }"),
+    (0x0000_0033, "Add { rd: 0, rs1: 0, rs2: 0 }"),
+    (0x4000_0033, "Sub { rd: 0, rs1: 0, rs2: 0 }"),
+    (0x0000_1033, "Sll { rd: 0, rs1: 0, rs2: 0 }"),
+    (0x0000_2033, "Slt { rd: 0, rs1: 0, rs2: 0 }"),
+    (0x0000_3033, "Sltu { rd: 0, rs1: 0, rs2: 0 }"),
+    (0x0000_4033, "Xor { rd: 0, rs1: 0, rs2: 0 }"),
+    (0x0000_5033, "Srl { rd: 0, rs1: 0, rs2: 0 }"),
+    (0x4000_5033, "Sra { rd: 0, rs1: 0, rs2: 0 }"),
+    (0x0000_6033, "Or { rd: 0, rs1: 0, rs2: 0 }"),
+    (0x0000_7033, "And { rd: 0, rs1: 0, rs2: 0 }"),
+    (0x0200_0033, "Mul { rd: 0, rs1: 0, rs2: 0 }"),
+    (0x0200_1033, "Mulh { rd: 0, rs1: 0, rs2: 0 }"),
+    (0x0200_2033, "Mulhsu { rd: 0, rs1: 0, rs2: 0 }"),
+    (0x0200_3033, "Mulhu { rd: 0, rs1: 0, rs2: 0 }"),
+    (0x0200_4033, "Div { rd: 0, rs1: 0, rs2: 0 }"),
+    (0x0200_5033, "Divu { rd: 0, rs1: 0, rs2: 0 }"),
+    (0x0200_6033, "Rem { rd: 0, rs1: 0, rs2: 0 }"),
+    (0x0200_7033, "Remu { rd: 0, rs1: 0, rs2: 0 }"),
+    (0x0000_0073, "Ecall"),
+    (0x0010_0073, "Ebreak"),
+    (0x0000_000f, "Fence { word: 15 }"),
 ];
 
-/// Each row with fields that tell the places of its bits apart.
-const MIDDLE: [(Instr, u32); 46] = [
-    (
-        Instr::Lui {
-            rd: 1,
-            imm: 0x12345,
-        },
-        0x1234_50b7,
-    ),
-    (
-        Instr::Auipc {
-            rd: 1,
-            imm: 0x12345,
-        },
-        0x1234_5097,
-    ),
-    (
-        Instr::Jal {
-            rd: 1,
-            offset: 0x6d5a6,
-        },
-        0x5a66_d0ef,
-    ),
-    (
-        Instr::Jalr {
-            rd: 1,
-            rs1: 2,
-            imm: 1253,
-        },
-        0x4e51_00e7,
-    ),
-    (
-        Instr::Beq {
-            rs1: 2,
-            rs2: 3,
-            offset: 2730,
-        },
-        0x2a31_05e3,
-    ),
-    (
-        Instr::Bne {
-            rs1: 2,
-            rs2: 3,
-            offset: 2730,
-        },
-        0x2a31_15e3,
-    ),
-    (
-        Instr::Blt {
-            rs1: 2,
-            rs2: 3,
-            offset: 2730,
-        },
-        0x2a31_45e3,
-    ),
-    (
-        Instr::Bge {
-            rs1: 2,
-            rs2: 3,
-            offset: 2730,
-        },
-        0x2a31_55e3,
-    ),
-    (
-        Instr::Bltu {
-            rs1: 2,
-            rs2: 3,
-            offset: 2730,
-        },
-        0x2a31_65e3,
-    ),
-    (
-        Instr::Bgeu {
-            rs1: 2,
-            rs2: 3,
-            offset: 2730,
-        },
-        0x2a31_75e3,
-    ),
-    (
-        Instr::Lb {
-            rd: 1,
-            rs1: 2,
-            imm: 1253,
-        },
-        0x4e51_0083,
-    ),
-    (
-        Instr::Lh {
-            rd: 1,
-            rs1: 2,
-            imm: 1253,
-        },
-        0x4e51_1083,
-    ),
-    (
-        Instr::Lw {
-            rd: 1,
-            rs1: 2,
-            imm: 1253,
-        },
-        0x4e51_2083,
-    ),
-    (
-        Instr::Lbu {
-            rd: 1,
-            rs1: 2,
-            imm: 1253,
-        },
-        0x4e51_4083,
-    ),
-    (
-        Instr::Lhu {
-            rd: 1,
-            rs1: 2,
-            imm: 1253,
-        },
-        0x4e51_5083,
-    ),
-    (
-        Instr::Sb {
-            rs1: 2,
-            rs2: 3,
-            imm: 1253,
-        },
-        0x4e31_02a3,
-    ),
-    (
-        Instr::Sh {
-            rs1: 2,
-            rs2: 3,
-            imm: 1253,
-        },
-        0x4e31_12a3,
-    ),
-    (
-        Instr::Sw {
-            rs1: 2,
-            rs2: 3,
-            imm: 1253,
-        },
-        0x4e31_22a3,
-    ),
-    (
-        Instr::Addi {
-            rd: 1,
-            rs1: 2,
-            imm: 1253,
-        },
-        0x4e51_0093,
-    ),
-    (
-        Instr::Slti {
-            rd: 1,
-            rs1: 2,
-            imm: 1253,
-        },
-        0x4e51_2093,
-    ),
-    (
-        Instr::Sltiu {
-            rd: 1,
-            rs1: 2,
-            imm: 1253,
-        },
-        0x4e51_3093,
-    ),
-    (
-        Instr::Xori {
-            rd: 1,
-            rs1: 2,
-            imm: 1253,
-        },
-        0x4e51_4093,
-    ),
-    (
-        Instr::Ori {
-            rd: 1,
-            rs1: 2,
-            imm: 1253,
-        },
-        0x4e51_6093,
-    ),
-    (
-        Instr::Andi {
-            rd: 1,
-            rs1: 2,
-            imm: 1253,
-        },
-        0x4e51_7093,
-    ),
-    (
-        Instr::Slli {
-            rd: 1,
-            rs1: 2,
-            amount: 21,
-        },
-        0x0151_1093,
-    ),
-    (
-        Instr::Srli {
-            rd: 1,
-            rs1: 2,
-            amount: 21,
-        },
-        0x0151_5093,
-    ),
-    (
-        Instr::Srai {
-            rd: 1,
-            rs1: 2,
-            amount: 21,
-        },
-        0x4151_5093,
-    ),
-    (
-        Instr::Add {
-            rd: 1,
-            rs1: 2,
-            rs2: 3,
-        },
-        0x0031_00b3,
-    ),
-    (
-        Instr::Sub {
-            rd: 1,
-            rs1: 2,
-            rs2: 3,
-        },
-        0x4031_00b3,
-    ),
-    (
-        Instr::Sll {
-            rd: 1,
-            rs1: 2,
-            rs2: 3,
-        },
-        0x0031_10b3,
-    ),
-    (
-        Instr::Slt {
-            rd: 1,
-            rs1: 2,
-            rs2: 3,
-        },
-        0x0031_20b3,
-    ),
-    (
-        Instr::Sltu {
-            rd: 1,
-            rs1: 2,
-            rs2: 3,
-        },
-        0x0031_30b3,
-    ),
-    (
-        Instr::Xor {
-            rd: 1,
-            rs1: 2,
-            rs2: 3,
-        },
-        0x0031_40b3,
-    ),
-    (
-        Instr::Srl {
-            rd: 1,
-            rs1: 2,
-            rs2: 3,
-        },
-        0x0031_50b3,
-    ),
-    (
-        Instr::Sra {
-            rd: 1,
-            rs1: 2,
-            rs2: 3,
-        },
-        0x4031_50b3,
-    ),
-    (
-        Instr::Or {
-            rd: 1,
-            rs1: 2,
-            rs2: 3,
-        },
-        0x0031_60b3,
-    ),
-    (
-        Instr::And {
-            rd: 1,
-            rs1: 2,
-            rs2: 3,
-        },
-        0x0031_70b3,
-    ),
-    (
-        Instr::Mul {
-            rd: 1,
-            rs1: 2,
-            rs2: 3,
-        },
-        0x0231_00b3,
-    ),
-    (
-        Instr::Mulh {
-            rd: 1,
-            rs1: 2,
-            rs2: 3,
-        },
-        0x0231_10b3,
-    ),
-    (
-        Instr::Mulhsu {
-            rd: 1,
-            rs1: 2,
-            rs2: 3,
-        },
-        0x0231_20b3,
-    ),
-    (
-        Instr::Mulhu {
-            rd: 1,
-            rs1: 2,
-            rs2: 3,
-        },
-        0x0231_30b3,
-    ),
-    (
-        Instr::Div {
-            rd: 1,
-            rs1: 2,
-            rs2: 3,
-        },
-        0x0231_40b3,
-    ),
-    (
-        Instr::Divu {
-            rd: 1,
-            rs1: 2,
-            rs2: 3,
-        },
-        0x0231_50b3,
-    ),
-    (
-        Instr::Rem {
-            rd: 1,
-            rs1: 2,
-            rs2: 3,
-        },
-        0x0231_60b3,
-    ),
-    (
-        Instr::Remu {
-            rd: 1,
-            rs1: 2,
-            rs2: 3,
-        },
-        0x0231_70b3,
-    ),
-    (Instr::Fence { word: 0x0ff0_000f }, 0x0ff0_000f),
+/// The same with fields that tell the places of the bits apart.
+const MIDDLE: [(u32, &str); 46] = [
+    (0x1234_50b7, "Lui { rd: 1, imm: 74565 }"),
+    (0x1234_5097, "Auipc { rd: 1, imm: 74565 }"),
+    (0x5a66_d0ef, "Jal { rd: 1, offset: 447910 }"),
+    (0x4e51_00e7, "Jalr { rd: 1, rs1: 2, imm: 1253 }"),
+    (0x2a31_05e3, "Beq { rs1: 2, rs2: 3, offset: 2730 }"),
+    (0x2a31_15e3, "Bne { rs1: 2, rs2: 3, offset: 2730 }"),
+    (0x2a31_45e3, "Blt { rs1: 2, rs2: 3, offset: 2730 }"),
+    (0x2a31_55e3, "Bge { rs1: 2, rs2: 3, offset: 2730 }"),
+    (0x2a31_65e3, "Bltu { rs1: 2, rs2: 3, offset: 2730 }"),
+    (0x2a31_75e3, "Bgeu { rs1: 2, rs2: 3, offset: 2730 }"),
+    (0x4e51_0083, "Lb { rd: 1, rs1: 2, imm: 1253 }"),
+    (0x4e51_1083, "Lh { rd: 1, rs1: 2, imm: 1253 }"),
+    (0x4e51_2083, "Lw { rd: 1, rs1: 2, imm: 1253 }"),
+    (0x4e51_4083, "Lbu { rd: 1, rs1: 2, imm: 1253 }"),
+    (0x4e51_5083, "Lhu { rd: 1, rs1: 2, imm: 1253 }"),
+    (0x4e31_02a3, "Sb { rs1: 2, rs2: 3, imm: 1253 }"),
+    (0x4e31_12a3, "Sh { rs1: 2, rs2: 3, imm: 1253 }"),
+    (0x4e31_22a3, "Sw { rs1: 2, rs2: 3, imm: 1253 }"),
+    (0x4e51_0093, "Addi { rd: 1, rs1: 2, imm: 1253 }"),
+    (0x4e51_2093, "Slti { rd: 1, rs1: 2, imm: 1253 }"),
+    (0x4e51_3093, "Sltiu { rd: 1, rs1: 2, imm: 1253 }"),
+    (0x4e51_4093, "Xori { rd: 1, rs1: 2, imm: 1253 }"),
+    (0x4e51_6093, "Ori { rd: 1, rs1: 2, imm: 1253 }"),
+    (0x4e51_7093, "Andi { rd: 1, rs1: 2, imm: 1253 }"),
+    (0x0151_1093, "Slli { rd: 1, rs1: 2, amount: 21 }"),
+    (0x0151_5093, "Srli { rd: 1, rs1: 2, amount: 21 }"),
+    (0x4151_5093, "Srai { rd: 1, rs1: 2, amount: 21 }"),
+    (0x0031_00b3, "Add { rd: 1, rs1: 2, rs2: 3 }"),
+    (0x4031_00b3, "Sub { rd: 1, rs1: 2, rs2: 3 }"),
+    (0x0031_10b3, "Sll { rd: 1, rs1: 2, rs2: 3 }"),
+    (0x0031_20b3, "Slt { rd: 1, rs1: 2, rs2: 3 }"),
+    (0x0031_30b3, "Sltu { rd: 1, rs1: 2, rs2: 3 }"),
+    (0x0031_40b3, "Xor { rd: 1, rs1: 2, rs2: 3 }"),
+    (0x0031_50b3, "Srl { rd: 1, rs1: 2, rs2: 3 }"),
+    (0x4031_50b3, "Sra { rd: 1, rs1: 2, rs2: 3 }"),
+    (0x0031_60b3, "Or { rd: 1, rs1: 2, rs2: 3 }"),
+    (0x0031_70b3, "And { rd: 1, rs1: 2, rs2: 3 }"),
+    (0x0231_00b3, "Mul { rd: 1, rs1: 2, rs2: 3 }"),
+    (0x0231_10b3, "Mulh { rd: 1, rs1: 2, rs2: 3 }"),
+    (0x0231_20b3, "Mulhsu { rd: 1, rs1: 2, rs2: 3 }"),
+    (0x0231_30b3, "Mulhu { rd: 1, rs1: 2, rs2: 3 }"),
+    (0x0231_40b3, "Div { rd: 1, rs1: 2, rs2: 3 }"),
+    (0x0231_50b3, "Divu { rd: 1, rs1: 2, rs2: 3 }"),
+    (0x0231_60b3, "Rem { rd: 1, rs1: 2, rs2: 3 }"),
+    (0x0231_70b3, "Remu { rd: 1, rs1: 2, rs2: 3 }"),
+    (0x0ff0_000f, "Fence { word: 267386895 }"),
 ];
 
-/// Each row at the high end of its ranges.
-const HIGH: [(Instr, u32); 46] = [
-    (
-        Instr::Lui {
-            rd: 31,
-            imm: 0xfffff,
-        },
-        0xffff_ffb7,
-    ),
-    (
-        Instr::Auipc {
-            rd: 31,
-            imm: 0xfffff,
-        },
-        0xffff_ff97,
-    ),
-    (
-        Instr::Jal {
-            rd: 31,
-            offset: 1048574,
-        },
-        0x7fff_ffef,
-    ),
-    (
-        Instr::Jalr {
-            rd: 31,
-            rs1: 31,
-            imm: 2047,
-        },
-        0x7fff_8fe7,
-    ),
-    (
-        Instr::Beq {
-            rs1: 31,
-            rs2: 31,
-            offset: 4094,
-        },
-        0x7fff_8fe3,
-    ),
-    (
-        Instr::Bne {
-            rs1: 31,
-            rs2: 31,
-            offset: 4094,
-        },
-        0x7fff_9fe3,
-    ),
-    (
-        Instr::Blt {
-            rs1: 31,
-            rs2: 31,
-            offset: 4094,
-        },
-        0x7fff_cfe3,
-    ),
-    (
-        Instr::Bge {
-            rs1: 31,
-            rs2: 31,
-            offset: 4094,
-        },
-        0x7fff_dfe3,
-    ),
-    (
-        Instr::Bltu {
-            rs1: 31,
-            rs2: 31,
-            offset: 4094,
-        },
-        0x7fff_efe3,
-    ),
-    (
-        Instr::Bgeu {
-            rs1: 31,
-            rs2: 31,
-            offset: 4094,
-        },
-        0x7fff_ffe3,
-    ),
-    (
-        Instr::Lb {
-            rd: 31,
-            rs1: 31,
-            imm: 2047,
-        },
-        0x7fff_8f83,
-    ),
-    (
-        Instr::Lh {
-            rd: 31,
-            rs1: 31,
-            imm: 2047,
-        },
-        0x7fff_9f83,
-    ),
-    (
-        Instr::Lw {
-            rd: 31,
-            rs1: 31,
-            imm: 2047,
-        },
-        0x7fff_af83,
-    ),
-    (
-        Instr::Lbu {
-            rd: 31,
-            rs1: 31,
-            imm: 2047,
-        },
-        0x7fff_cf83,
-    ),
-    (
-        Instr::Lhu {
-            rd: 31,
-            rs1: 31,
-            imm: 2047,
-        },
-        0x7fff_df83,
-    ),
-    (
-        Instr::Sb {
-            rs1: 31,
-            rs2: 31,
-            imm: 2047,
-        },
-        0x7fff_8fa3,
-    ),
-    (
-        Instr::Sh {
-            rs1: 31,
-            rs2: 31,
-            imm: 2047,
-        },
-        0x7fff_9fa3,
-    ),
-    (
-        Instr::Sw {
-            rs1: 31,
-            rs2: 31,
-            imm: 2047,
-        },
-        0x7fff_afa3,
-    ),
-    (
-        Instr::Addi {
-            rd: 31,
-            rs1: 31,
-            imm: 2047,
-        },
-        0x7fff_8f93,
-    ),
-    (
-        Instr::Slti {
-            rd: 31,
-            rs1: 31,
-            imm: 2047,
-        },
-        0x7fff_af93,
-    ),
-    (
-        Instr::Sltiu {
-            rd: 31,
-            rs1: 31,
-            imm: 2047,
-        },
-        0x7fff_bf93,
-    ),
-    (
-        Instr::Xori {
-            rd: 31,
-            rs1: 31,
-            imm: 2047,
-        },
-        0x7fff_cf93,
-    ),
-    (
-        Instr::Ori {
-            rd: 31,
-            rs1: 31,
-            imm: 2047,
-        },
-        0x7fff_ef93,
-    ),
-    (
-        Instr::Andi {
-            rd: 31,
-            rs1: 31,
-            imm: 2047,
-        },
-        0x7fff_ff93,
-    ),
-    (
-        Instr::Slli {
-            rd: 31,
-            rs1: 31,
-            amount: 31,
-        },
-        0x01ff_9f93,
-    ),
-    (
-        Instr::Srli {
-            rd: 31,
-            rs1: 31,
-            amount: 31,
-        },
-        0x01ff_df93,
-    ),
-    (
-        Instr::Srai {
-            rd: 31,
-            rs1: 31,
-            amount: 31,
-        },
-        0x41ff_df93,
-    ),
-    (
-        Instr::Add {
-            rd: 31,
-            rs1: 31,
-            rs2: 31,
-        },
-        0x01ff_8fb3,
-    ),
-    (
-        Instr::Sub {
-            rd: 31,
-            rs1: 31,
-            rs2: 31,
-        },
-        0x41ff_8fb3,
-    ),
-    (
-        Instr::Sll {
-            rd: 31,
-            rs1: 31,
-            rs2: 31,
-        },
-        0x01ff_9fb3,
-    ),
-    (
-        Instr::Slt {
-            rd: 31,
-            rs1: 31,
-            rs2: 31,
-        },
-        0x01ff_afb3,
-    ),
-    (
-        Instr::Sltu {
-            rd: 31,
-            rs1: 31,
-            rs2: 31,
-        },
-        0x01ff_bfb3,
-    ),
-    (
-        Instr::Xor {
-            rd: 31,
-            rs1: 31,
-            rs2: 31,
-        },
-        0x01ff_cfb3,
-    ),
-    (
-        Instr::Srl {
-            rd: 31,
-            rs1: 31,
-            rs2: 31,
-        },
-        0x01ff_dfb3,
-    ),
-    (
-        Instr::Sra {
-            rd: 31,
-            rs1: 31,
-            rs2: 31,
-        },
-        0x41ff_dfb3,
-    ),
-    (
-        Instr::Or {
-            rd: 31,
-            rs1: 31,
-            rs2: 31,
-        },
-        0x01ff_efb3,
-    ),
-    (
-        Instr::And {
-            rd: 31,
-            rs1: 31,
-            rs2: 31,
-        },
-        0x01ff_ffb3,
-    ),
-    (
-        Instr::Mul {
-            rd: 31,
-            rs1: 31,
-            rs2: 31,
-        },
-        0x03ff_8fb3,
-    ),
-    (
-        Instr::Mulh {
-            rd: 31,
-            rs1: 31,
-            rs2: 31,
-        },
-        0x03ff_9fb3,
-    ),
-    (
-        Instr::Mulhsu {
-            rd: 31,
-            rs1: 31,
-            rs2: 31,
-        },
-        0x03ff_afb3,
-    ),
-    (
-        Instr::Mulhu {
-            rd: 31,
-            rs1: 31,
-            rs2: 31,
-        },
-        0x03ff_bfb3,
-    ),
-    (
-        Instr::Div {
-            rd: 31,
-            rs1: 31,
-            rs2: 31,
-        },
-        0x03ff_cfb3,
-    ),
-    (
-        Instr::Divu {
-            rd: 31,
-            rs1: 31,
-            rs2: 31,
-        },
-        0x03ff_dfb3,
-    ),
-    (
-        Instr::Rem {
-            rd: 31,
-            rs1: 31,
-            rs2: 31,
-        },
-        0x03ff_efb3,
-    ),
-    (
-        Instr::Remu {
-            rd: 31,
-            rs1: 31,
-            rs2: 31,
-        },
-        0x03ff_ffb3,
-    ),
-    (Instr::Fence { word: 0xffff_8f8f }, 0xffff_8f8f),
+/// The same at the high end.
+const HIGH: [(u32, &str); 46] = [
+    (0xffff_ffb7, "Lui { rd: 31, imm: 1048575 }"),
+    (0xffff_ff97, "Auipc { rd: 31, imm: 1048575 }"),
+    (0x7fff_ffef, "Jal { rd: 31, offset: 1048574 }"),
+    (0x7fff_8fe7, "Jalr { rd: 31, rs1: 31, imm: 2047 }"),
+    (0x7fff_8fe3, "Beq { rs1: 31, rs2: 31, offset: 4094 }"),
+    (0x7fff_9fe3, "Bne { rs1: 31, rs2: 31, offset: 4094 }"),
+    (0x7fff_cfe3, "Blt { rs1: 31, rs2: 31, offset: 4094 }"),
+    (0x7fff_dfe3, "Bge { rs1: 31, rs2: 31, offset: 4094 }"),
+    (0x7fff_efe3, "Bltu { rs1: 31, rs2: 31, offset: 4094 }"),
+    (0x7fff_ffe3, "Bgeu { rs1: 31, rs2: 31, offset: 4094 }"),
+    (0x7fff_8f83, "Lb { rd: 31, rs1: 31, imm: 2047 }"),
+    (0x7fff_9f83, "Lh { rd: 31, rs1: 31, imm: 2047 }"),
+    (0x7fff_af83, "Lw { rd: 31, rs1: 31, imm: 2047 }"),
+    (0x7fff_cf83, "Lbu { rd: 31, rs1: 31, imm: 2047 }"),
+    (0x7fff_df83, "Lhu { rd: 31, rs1: 31, imm: 2047 }"),
+    (0x7fff_8fa3, "Sb { rs1: 31, rs2: 31, imm: 2047 }"),
+    (0x7fff_9fa3, "Sh { rs1: 31, rs2: 31, imm: 2047 }"),
+    (0x7fff_afa3, "Sw { rs1: 31, rs2: 31, imm: 2047 }"),
+    (0x7fff_8f93, "Addi { rd: 31, rs1: 31, imm: 2047 }"),
+    (0x7fff_af93, "Slti { rd: 31, rs1: 31, imm: 2047 }"),
+    (0x7fff_bf93, "Sltiu { rd: 31, rs1: 31, imm: 2047 }"),
+    (0x7fff_cf93, "Xori { rd: 31, rs1: 31, imm: 2047 }"),
+    (0x7fff_ef93, "Ori { rd: 31, rs1: 31, imm: 2047 }"),
+    (0x7fff_ff93, "Andi { rd: 31, rs1: 31, imm: 2047 }"),
+    (0x01ff_9f93, "Slli { rd: 31, rs1: 31, amount: 31 }"),
+    (0x01ff_df93, "Srli { rd: 31, rs1: 31, amount: 31 }"),
+    (0x41ff_df93, "Srai { rd: 31, rs1: 31, amount: 31 }"),
+    (0x01ff_8fb3, "Add { rd: 31, rs1: 31, rs2: 31 }"),
+    (0x41ff_8fb3, "Sub { rd: 31, rs1: 31, rs2: 31 }"),
+    (0x01ff_9fb3, "Sll { rd: 31, rs1: 31, rs2: 31 }"),
+    (0x01ff_afb3, "Slt { rd: 31, rs1: 31, rs2: 31 }"),
+    (0x01ff_bfb3, "Sltu { rd: 31, rs1: 31, rs2: 31 }"),
+    (0x01ff_cfb3, "Xor { rd: 31, rs1: 31, rs2: 31 }"),
+    (0x01ff_dfb3, "Srl { rd: 31, rs1: 31, rs2: 31 }"),
+    (0x41ff_dfb3, "Sra { rd: 31, rs1: 31, rs2: 31 }"),
+    (0x01ff_efb3, "Or { rd: 31, rs1: 31, rs2: 31 }"),
+    (0x01ff_ffb3, "And { rd: 31, rs1: 31, rs2: 31 }"),
+    (0x03ff_8fb3, "Mul { rd: 31, rs1: 31, rs2: 31 }"),
+    (0x03ff_9fb3, "Mulh { rd: 31, rs1: 31, rs2: 31 }"),
+    (0x03ff_afb3, "Mulhsu { rd: 31, rs1: 31, rs2: 31 }"),
+    (0x03ff_bfb3, "Mulhu { rd: 31, rs1: 31, rs2: 31 }"),
+    (0x03ff_cfb3, "Div { rd: 31, rs1: 31, rs2: 31 }"),
+    (0x03ff_dfb3, "Divu { rd: 31, rs1: 31, rs2: 31 }"),
+    (0x03ff_efb3, "Rem { rd: 31, rs1: 31, rs2: 31 }"),
+    (0x03ff_ffb3, "Remu { rd: 31, rs1: 31, rs2: 31 }"),
+    (0xffff_8f8f, "Fence { word: 4294938511 }"),
 ];
 
 /// Instructions with one field just out of its range.
-const OUT_OF_RANGE: [Instr; 27] = [
+const OUT_OF_RANGE: [Instr; 14] = [
     Instr::Lui { rd: 32, imm: 0 },
-    Instr::Lui {
-        rd: 0,
-        imm: 0x10_0000,
-    },
-    Instr::Auipc { rd: 32, imm: 0 },
     Instr::Auipc {
         rd: 0,
         imm: 0x10_0000,
     },
-    Instr::Jal { rd: 32, offset: 0 },
     Instr::Jal { rd: 0, offset: 1 },
     Instr::Jal {
         rd: 0,
@@ -1104,11 +174,6 @@ const OUT_OF_RANGE: [Instr; 27] = [
     Instr::Jal {
         rd: 0,
         offset: -1048578,
-    },
-    Instr::Jalr {
-        rd: 32,
-        rs1: 0,
-        imm: 0,
     },
     Instr::Jalr {
         rd: 0,
@@ -1125,32 +190,12 @@ const OUT_OF_RANGE: [Instr; 27] = [
         rs1: 0,
         imm: -2049,
     },
-    Instr::Sw {
-        rs1: 32,
-        rs2: 0,
-        imm: 0,
-    },
     Instr::Sb {
         rs1: 0,
         rs2: 32,
         imm: 0,
     },
-    Instr::Sh {
-        rs1: 0,
-        rs2: 0,
-        imm: 2048,
-    },
     Instr::Beq {
-        rs1: 32,
-        rs2: 0,
-        offset: 0,
-    },
-    Instr::Bne {
-        rs1: 0,
-        rs2: 32,
-        offset: 0,
-    },
-    Instr::Blt {
         rs1: 0,
         rs2: 0,
         offset: 4096,
@@ -1160,30 +205,10 @@ const OUT_OF_RANGE: [Instr; 27] = [
         rs2: 0,
         offset: -4098,
     },
-    Instr::Bltu {
-        rs1: 0,
-        rs2: 0,
-        offset: -1,
-    },
     Instr::Slli {
         rd: 0,
         rs1: 0,
         amount: 32,
-    },
-    Instr::Srai {
-        rd: 0,
-        rs1: 32,
-        amount: 0,
-    },
-    Instr::Add {
-        rd: 32,
-        rs1: 0,
-        rs2: 0,
-    },
-    Instr::Mul {
-        rd: 0,
-        rs1: 32,
-        rs2: 0,
     },
     Instr::Remu {
         rd: 0,
@@ -1191,7 +216,6 @@ const OUT_OF_RANGE: [Instr; 27] = [
         rs2: 32,
     },
     Instr::Fence { word: 0x0000_100f },
-    Instr::Fence { word: 0x0000_0073 },
 ];
 
 /// Words that stand for no instruction: among them MRET, FENCE.I, and rows of RV64I.
@@ -1280,10 +304,12 @@ const WORDS_OF_ROW: [u32; 48] = [
 #[test]
 fn words_of_another_assembler(rt: HostRuntime) -> Result<(), Fail> {
     for table in [LOW.as_slice(), MIDDLE.as_slice(), HIGH.as_slice()] {
-        for (instr, word) in table {
-            assert_eq!(rt; encode(instr), Some(*word), "{instr:?}");
-            assert_eq!(rt; decode(*word), Some(*instr), "{word:#010x}");
-            assert_eq!(rt; decode_encoded(instr), Some(*instr));
+        for (word, text) in table {
+            let instr = decode(*word).ok_or("no instruction")?;
+            let shown = format!(in rt.alloc(); "{instr:?}")?;
+            assert_eq!(rt; shown.as_str(), *text, "{word:#010x}");
+            assert_eq!(rt; encode(&instr), Some(*word), "{text}");
+            assert_eq!(rt; decode_encoded(&instr), Some(instr));
             assert_eq!(rt; encode_decoded(*word), Some(*word));
         }
     }
@@ -1296,6 +322,7 @@ fn words_of_another_assembler(rt: HostRuntime) -> Result<(), Fail> {
     listing_is_function();
     one_instruction_a_word();
     one_word_an_instruction();
+    pc_stays_aligned();
     Ok(())
 }
 

@@ -47,6 +47,16 @@ names_register effect.Full = Unit {0}
 pub record NamesRegister (effect : Effect) : Type 0 where
   pub register : names_register effect
 
+abbrev pub moves_aligned : Effect → Type 0
+moves_aligned (effect.Next wrote store next) = next % 4 ≡ 0
+moves_aligned effect.Call = Unit {0}
+moves_aligned (effect.Trap cause) = Unit {0}
+moves_aligned effect.Full = Unit {0}
+
+-- the next pc of an effect, if it has one, is a multiple of four
+pub record MovesAligned (effect : Effect) : Type 0 where
+  pub next : moves_aligned effect
+
 -- the store of an effect: address, width and value
 abbrev pub store_of : Effect → Option (ℕ × ℕ × ℕ)
 store_of (effect.Next wrote store next) = store

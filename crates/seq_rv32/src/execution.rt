@@ -2,7 +2,7 @@
 ghost use Rattle.std.specs.Prelude.{◌≡◌, ℕ, ◌%◌, ◌↔◌};
 ghost use Rattle.seq_isa.specs.InRange.{InRange};
 ghost use Rattle.seq_isa.specs.Meaning.{outcome_of, outcome_at};
-ghost use Rattle.seq_rv32.specs.Effects.{effect_of, StoresWhereFull, StoreFits, NamesRegister, ChangesNothing, applied, bytes_after, state_after};
+ghost use Rattle.seq_rv32.specs.Effects.{effect_of, StoresWhereFull, StoreFits, NamesRegister, MovesAligned, ChangesNothing, applied, bytes_after, state_after};
 
 use crate::alu::{
     divide, divide_unsigned, flag, is_less, multiply_high, multiply_high_mixed,
@@ -229,24 +229,27 @@ fn effect_at_pc<P: Port>(regs: &Regs, port: &P) -> Effect
 
 /// What the instruction at pc would do with these registers at a port: the outcome that the manual gives it over the bytes that
 /// the port holds, or Full where the port has no room for its store.
-#[tactic(auto, using(crate::proofs::Refusals::full_exactly))]
+#[tactic(auto, using(crate::proofs::Refusals::full_exactly, crate::proofs::NextPc::moves_on_aligned))]
 pub fn plan<P: Port>(regs: &Regs, port: &P) -> Effect
     requires { regs.now.pc % 4 ≡ 0 }
     ensures value { result ≡ effect_of (P.admission port.now) (outcome_at regs.now (P.bytes port.now)) }
     ensures full { (result ≡ Effect.Full) ↔ StoresWhereFull (P.admission port.now) (outcome_at regs.now (P.bytes port.now)) }
     ensures register { NamesRegister result }
+    ensures aligned { MovesAligned result }
     ensures store { StoreFits (P.admission port.now) result }
 {
     effect_at_pc(regs, port)
 }
 
 /// Takes the instruction at pc: plans it, applies the effect, and makes its store. Call, Trap and Full change nothing.
+#[tactic(auto, using(crate::proofs::NextPc::applied_aligned))]
 pub fn exec<P: Port>(regs: &mut Regs, port: &mut P) -> Effect
     requires { regs.old.pc % 4 ≡ 0 }
     ensures value { result ≡ effect_of (P.admission port.old) (outcome_at regs.old (P.bytes port.old)) }
     ensures regs { regs.new ≡ applied regs.old result }
     ensures bytes { P.bytes port.new ≡ bytes_after (P.bytes port.old) result }
     ensures state { port.new ≡ state_after P.after_store port.old result }
+    ensures aligned { regs.new.pc % 4 ≡ 0 }
     ensures nothing { ChangesNothing result → (regs.new ≡ regs.old) × (port.new ≡ port.old) }
 {
     let effect = plan(regs, port);
