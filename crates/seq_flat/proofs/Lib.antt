@@ -13,3 +13,4 @@ pub mod Grows
 pub mod Runs
 pub mod MoreInputs
 pub mod Outputs
+pub mod Worked

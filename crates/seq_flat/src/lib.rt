@@ -9,6 +9,8 @@ mod machine;
 mod memory;
 mod state;
 mod steps;
+#[cfg(test)]
+mod tests;
 
 pub use inputs::{Inputs, LineInput};
 pub use laws::{
