@@ -60,7 +60,7 @@ answered_grows : (f g : FlatState) (p answer : ℕ) → Grown f g → Grown f (a
 unfolding answered
 answered_grows f g p answer grown = record { line = grown.line }
 
-self_grows : (f : FlatState) → Grown f f
+pub self_grows : (f : FlatState) → Grown f f
 self_grows f = same_lines f f refl
 
 ended_grows : (f : FlatState) (p : ℕ) (e : End) → Grown f (ended f p e)

@@ -11,3 +11,6 @@ pub mod Aligned
 pub mod Wholes
 pub mod Grows
 pub mod Runs
+pub mod MoreInputs
+pub mod Outputs
+pub mod Worked

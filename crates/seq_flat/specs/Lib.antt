@@ -5,3 +5,4 @@ pub mod Step
 pub mod Run
 pub mod Whole
 pub mod Effects
+pub mod Laws

@@ -4,11 +4,18 @@
 
 mod calls;
 mod inputs;
+mod laws;
 mod machine;
 mod memory;
 mod state;
 mod steps;
+#[cfg(test)]
+mod tests;
 
 pub use inputs::{Inputs, LineInput};
+pub use laws::{
+    more_input_changes_no_run, more_input_changes_no_step, run_keeps_output, runs_go_on,
+    step_keeps_output,
+};
 pub use machine::Flat;
 pub use state::{End, FlatState, LineState, ProcessState, Rights, SegmentState, StepError, Waits};

@@ -1,0 +1,105 @@
+use Rattle.std.proofs.Common.{◌≡◌, ℕ, zero, suc, ◌/◌, ◌^◌, ◌<◌, ◌≤◌, true, false, List, [], ◌∷◌, length, arith, refl, sym, ◌∙◌, ap, inl, inr, get_or}
+use Rattle.std.specs.Prelude.{if◌then◌else◌, nat_lt, count_by}
+use Rattle.std.proofs.Math.Nat.{div-eq_of_lt}
+use Rattle.std.proofs.Math.Pow.{pow_mono}
+use Rattle.std.proofs.lemmas.Bool.{cases_lt, le-ltb}
+use lib.Count.{ones}
+use Rattle.seq_words.specs.Masks.{has_bit}
+use Rattle.seq_words.specs.declared.description.MachineDesc.{MachineDesc}
+use Rattle.seq_words.specs.declared.description.SegmentDesc.{SegmentDesc}
+use Rattle.seq_words.specs.declared.description.ProcessDesc.{ProcessDesc}
+use Rattle.seq_words.specs.Description.{IsSize, IsSegment, IsProcess, IsDescription, line_count}
+use Rattle.seq_flat.proofs.tests.machine.Goals as goal
+
+-- a mask below 2 ^ n has no bit from n on
+no_bit : (mask n l : ℕ) → mask < 2 ^ n → n ≤ l → has_bit mask l ≡ false
+no_bit mask n l small above =
+    let high : 2 ^ n ≤ 2 ^ l = pow_mono above in
+    let none : mask / 2 ^ l ≡ 0 = div-eq_of_lt (omega arith) in
+    rw none refl
+
+granted : (mask n s : ℕ) → mask < 2 ^ n → has_bit mask s ≡ true → s < n
+granted mask n s small has = elim (cases_lt s n) [
+  | inl lt ↦ lt
+  | inr ge ↦ absurd (let e : has_bit mask s ≡ false = no_bit mask n s small ge in let c : ⊥ = cc in c)
+]
+
+small_segment : (s : SegmentDesc) → s.size ≡ 32 → s.first ≡ [] → IsSegment s
+small_segment s size first = record {
+  size = record { between = record { low_at = omega arith; high_at = omega arith }; whole = rw size refl };
+  first = rw first (omega arith);
+}
+
+process : (p : ProcessDesc) → IsSize 65536 p.size → length p.image ≤ p.size → p.entry ≡ 0 → p.grants < 2 ^ 3 → IsProcess 4 p
+process p size image entry grants = record {
+  size = size;
+  image = image;
+  aligned = rw entry refl;
+  inside = let low : 32 ≤ p.size = size.between.low_at in omega arith;
+  granted = λ s has. let lt : s < 3 = granted p.grants 3 s grants has in omega arith;
+}
+
+line_owners : (l : ℕ) (p q : ProcessDesc) → p.lines ≡ 1 → q.lines ≡ 0 → count_by (λ (r : ProcessDesc). has_bit r.lines l) (p ∷ q ∷ []) ≡ (if nat_lt l 1 then 1 else 0)
+line_owners zero p q one none = rw (one, none) refl
+line_owners (suc l) p q one none =
+    let first : has_bit 1 (suc l) ≡ false = no_bit 1 1 (suc l) (omega arith) (omega arith) in
+    let second : has_bit 0 (suc l) ≡ false = no_bit 0 1 (suc l) (omega arith) (omega arith) in
+    let past : nat_lt (suc l) 1 ≡ false = le-ltb (suc l) 1 (omega arith) in
+    rw (one, none, first, second, past) refl
+
+four : {X : Type 0} (P : X → Type 0) (a b c d : X) → P a → P b → P c → P d → (k : ℕ) (x : X) → k < 4 → P (get_or (a ∷ b ∷ c ∷ d ∷ []) k x)
+four P a b c d p q r s zero x lt = p
+four P a b c d p q r s (suc zero) x lt = q
+four P a b c d p q r s (suc (suc zero)) x lt = r
+four P a b c d p q r s (suc (suc (suc zero))) x lt = s
+four P a b c d p q r s (suc (suc (suc (suc k)))) x lt = absurd (omega arith)
+
+two : {X : Type 0} (P : X → Type 0) (a b : X) → P a → P b → (k : ℕ) (x : X) → k < 2 → P (get_or (a ∷ b ∷ []) k x)
+two P a b p q zero x lt = p
+two P a b p q (suc zero) x lt = q
+two P a b p q (suc (suc k)) x lt = absurd (omega arith)
+
+abbrev made : List SegmentDesc → List ProcessDesc → MachineDesc
+made segments processes = record {
+  processors = 1;
+  memories = 2;
+  ios = 1;
+  cache = 16;
+  quantum = 1000;
+  journal = 32;
+  segments = segments;
+  processes = processes;
+}
+
+one_line : (p q : ProcessDesc) → p.lines ≡ 1 → q.lines ≡ 0 → line_count (made [] (p ∷ q ∷ [])) ≡ 1
+unfolding ones
+one_line p q one none = rw (one, none) refl
+
+described : (a b c d : SegmentDesc) (p q : ProcessDesc) → IsSegment a → IsSegment b → IsSegment c → IsSegment d → IsProcess 4 p → IsProcess 4 q → p.lines ≡ 1 → q.lines ≡ 0 → IsDescription (made (a ∷ b ∷ c ∷ d ∷ []) (p ∷ q ∷ []))
+described a b c d p q ha hb hc hd hp hq one none = record {
+  processors = record { low_at = omega arith; high_at = omega arith };
+  memories = record { low_at = omega arith; high_at = omega arith };
+  ios = record { low_at = omega arith; high_at = omega arith };
+  cache = record { low_at = omega arith; high_at = omega arith };
+  quantum = record { low_at = omega arith; high_at = omega arith };
+  journal = record { between = record { low_at = omega arith; high_at = omega arith }; whole = refl };
+  segments = omega arith;
+  each_segment = four IsSegment a b c d ha hb hc hd;
+  processes = record { low_at = omega arith; high_at = omega arith };
+  each_process = two (IsProcess 4) p q hp hq;
+  lines = λ l. line_owners l p q one none ∙ ap (λ n. if nat_lt l n then 1 else 0) (sym (one_line p q one none));
+}
+
+pub returns : goal.returns
+returns c =
+    let segments = c.from_vec.ensures ∙ c.in-Ok-vec.ensures.items in
+    let processes = c.from_vec-2.ensures ∙ c.in-Ok.ensures.items in
+    rw (segments, processes)
+    (described _ _ _ _ _ _
+    (small_segment _ c.segment.ensures.size c.segment.ensures.first)
+    (small_segment _ c.segment-2.ensures.size c.segment-2.ensures.first)
+    (small_segment _ c.segment-3.ensures.size c.segment-3.ensures.first)
+    (small_segment _ c.segment-4.ensures.size c.segment-4.ensures.first)
+    (process _ c.requires.size c.requires.image refl (omega arith))
+    (process _ c.requires.size c.requires.other refl (omega arith))
+    refl refl)
