@@ -1,3 +1,4 @@
 pub mod Lending
+pub mod Blocks
 pub mod Masks
 pub mod Description

@@ -1,0 +1,64 @@
+//! The program: it makes the real outside, and hands it with the words of the command line to the top call.
+#![tactic(auto)]
+
+ghost use Rattle.std.specs.Prelude.{◌≡◌, length};
+ghost use Rattle.seq_shelf.specs.Outlets.{views, marks};
+ghost use Rattle.seq_cli.specs.Lines.{AreFresh};
+
+use seq_cli::{Status, add_line, number, sequoia};
+use seq_shelf::{FileLine, FileShelf, OutSink, SoundChronicle};
+use std::alloc::{AllocError, Global};
+use std::env;
+use std::env::Env;
+use std::process::ExitCode;
+
+/// The number of lines of the largest machine.
+const LINES: u8 = 16;
+
+// The words after the program's name: none where one of them isn't UTF-8.
+fn read_words(rt: &(impl Env + AllocGlobal), alloc: Global) -> Option<Vec<String>> {
+    let mut words = Vec::new(alloc);
+    for word in env::args(rt).ok()?.skip(1) {
+        words.push(word).ok()?;
+    }
+    Some(words)
+}
+
+// The file of a line's output.
+fn line_file(alloc: Global, line: u8) -> Result<String, AllocError> {
+    format!(in alloc; "line{line}.out")
+}
+
+fn exit_code(status: &Status) -> ExitCode {
+    ExitCode::from(number(status))
+}
+
+fn main(rt: HostRuntime) -> Result<ExitCode, AllocError> {
+    let alloc = rt.alloc();
+    let mut lines = Vec::new(alloc);
+    for n in 0..LINES {
+        let line = FileLine::new(rt.clone()?, line_file(alloc, n)?);
+        if add_line(&mut lines, Box::new(alloc, line)?).is_err() {
+            return Ok(exit_code(&Status::NoMemory));
+        }
+    }
+    let words = match read_words(&rt, alloc) {
+        Some(words) => words,
+        None => return Ok(exit_code(&Status::Usage)),
+    };
+    let mut shelf = FileShelf::new(rt.clone()?, alloc);
+    let mut sink = OutSink::new(rt.clone()?);
+    let mut chronicle = SoundChronicle::new(alloc);
+    let status = sequoia(
+        alloc,
+        &words,
+        &mut shelf,
+        &mut lines,
+        &mut chronicle,
+        &mut sink,
+    );
+    Ok(exit_code(&status))
+}
+
+#[cfg(test)]
+mod tests;

@@ -1,0 +1,223 @@
+// Whole commands, with the outside in memory.
+ghost use Rattle.std.specs.Prelude.{◌≡◌, length};
+ghost use Rattle.seq_shelf.specs.Outlets.{views, marks};
+ghost use Rattle.seq_cli.specs.Lines.{AreFresh};
+
+use super::*;
+use seq_shelf::{Line, MemChronicle, MemLine, MemShelf, Outlet, SoundLine, SoundSink};
+use seq_words::{Bytes, Entry, LineNo, Pid};
+use std::test::Fail;
+
+const MACHINE: &str =
+    "sequoia 1\nprocessors 1\nmemories 2\nios 1\ncache 16\nquantum 1000\njournal 32\nprocess hello.sqi lines 0 segments -\n";
+
+// Private size 64, 33 bytes, entry 0: addi x10, x0, 0; addi x11, x0, 32; addi x12, x0, 1; addi x17, x0, 4; ecall;
+// addi x10, x0, 0; addi x17, x0, 0; ecall; and the byte 41.
+const HELLO: [u8; 49] = [
+    0x53, 0x51, 0x49, 0x31, 0x40, 0, 0, 0, 0x21, 0, 0, 0, 0, 0, 0, 0, 0x13, 0x05, 0, 0, 0x93, 0x05,
+    0, 0x02, 0x13, 0x06, 0x10, 0, 0x93, 0x08, 0x40, 0, 0x73, 0, 0, 0, 0x13, 0x05, 0, 0, 0x93, 0x08,
+    0, 0, 0x73, 0, 0, 0, 0x41,
+];
+
+// The numbers of the calls that are to fail.
+#[derive(Clone, Copy)]
+struct Failing {
+    loads: &'static [u8],
+    appends: &'static [u8],
+    sends: &'static [u8],
+}
+
+const NONE: Failing = Failing {
+    loads: &[],
+    appends: &[],
+    sends: &[],
+};
+
+// A schedule, what fails, and how the run ends: the status, the bytes of line 0, the entries of the history.
+#[derive(Clone, Copy)]
+struct Row {
+    schedule: &'static str,
+    failing: Failing,
+    status: Status,
+    bytes: &'static [u8],
+    entries: usize,
+}
+
+const EIGHT_STEPS: &str =
+    "turn p0\nturn p0\nturn p0\nturn p0\nturn p0\nturn p0\nturn p0\nturn p0\nturn i0\n";
+
+const ROWS: [Row; 11] = [
+    Row {
+        schedule: EIGHT_STEPS,
+        failing: NONE,
+        status: Status::Done,
+        bytes: &[0x41],
+        entries: 8,
+    },
+    Row {
+        schedule: "turn p0\nturn p0\nturn p0\nturn p0\nturn p0\nturn i0\n",
+        failing: NONE,
+        status: Status::Done,
+        bytes: &[0x41],
+        entries: 5,
+    },
+    Row {
+        schedule: "turn p0\nturn p0\nturn p0\nturn p0\nturn i0\n",
+        failing: NONE,
+        status: Status::Done,
+        bytes: &[],
+        entries: 4,
+    },
+    Row {
+        schedule: "",
+        failing: NONE,
+        status: Status::Done,
+        bytes: &[],
+        entries: 0,
+    },
+    Row {
+        schedule: "finish 10\n",
+        failing: NONE,
+        status: Status::Refused {
+            file: 2,
+            place: 0,
+            rule: 0,
+        },
+        bytes: &[],
+        entries: 0,
+    },
+    Row {
+        schedule: EIGHT_STEPS,
+        failing: Failing {
+            loads: &[],
+            appends: &[],
+            sends: &[0],
+        },
+        status: Status::LineFault { line: LineNo(0) },
+        bytes: &[],
+        entries: 8,
+    },
+    Row {
+        schedule: EIGHT_STEPS,
+        failing: Failing {
+            loads: &[],
+            appends: &[3],
+            sends: &[],
+        },
+        status: Status::ChronicleFault,
+        bytes: &[],
+        entries: 3,
+    },
+    Row {
+        schedule: EIGHT_STEPS,
+        failing: Failing {
+            loads: &[0],
+            appends: &[],
+            sends: &[],
+        },
+        status: Status::ShelfFault,
+        bytes: &[],
+        entries: 0,
+    },
+    Row {
+        schedule: EIGHT_STEPS,
+        failing: Failing {
+            loads: &[1],
+            appends: &[],
+            sends: &[],
+        },
+        status: Status::ShelfFault,
+        bytes: &[],
+        entries: 0,
+    },
+    Row {
+        schedule: EIGHT_STEPS,
+        failing: Failing {
+            loads: &[2],
+            appends: &[],
+            sends: &[],
+        },
+        status: Status::ShelfFault,
+        bytes: &[],
+        entries: 0,
+    },
+    Row {
+        schedule: "turn p0",
+        failing: NONE,
+        status: Status::Refused {
+            file: 2,
+            place: 0,
+            rule: 0,
+        },
+        bytes: &[],
+        entries: 0,
+    },
+];
+
+fn words_of(alloc: Global, words: &[&str]) -> Result<Vec<String>, AllocError> {
+    let mut all = Vec::new(alloc);
+    for word in words {
+        all.push(String::from_str(alloc, word)?)?;
+    }
+    Ok(all)
+}
+
+// Runs a command over files in memory: how it ended, and how many entries of one step of process 0 were appended.
+fn run(
+    alloc: Global,
+    words: &[&str],
+    files: &[(&str, &[u8])],
+    failing: Failing,
+    lines: &mut Vec<Outlet>,
+) -> Result<(Status, Option<usize>), Fail>
+    requires sixteen { length lines.old.items ≡ 16 }
+    requires fresh { AreFresh (views line lines.old.items) (marks lines.old.items) }
+{
+    let mut shelf = MemShelf::new(alloc, Bytes::copy_of(alloc, failing.loads)?);
+    for (name, content) in files {
+        shelf.put(name, content)?;
+    }
+    let mut sink = SoundSink::new(alloc);
+    let mut chronicle = MemChronicle::new(alloc, Bytes::copy_of(alloc, failing.appends)?);
+    let words = words_of(alloc, words)?;
+    let status = sequoia(alloc, &words, &mut shelf, lines, &mut chronicle, &mut sink);
+    let pairs = chronicle.pairs();
+    let step = Entry {
+        pid: Pid(0),
+        count: 1,
+    };
+    let all_steps = pairs.iter().all(|pair| *pair == step);
+    Ok((status, if all_steps { Some(pairs.len()) } else { None }))
+}
+
+#[test]
+fn rows(rt: HostRuntime) -> Result<(), Fail> {
+    let alloc = rt.alloc();
+    for row in ROWS {
+        let mut lines = Vec::new(alloc);
+        let first = MemLine::new(alloc, Bytes::copy_of(alloc, row.failing.sends)?);
+        add_line(&mut lines, Box::new(alloc, first)?)?;
+        for n in 1u8..16 {
+            let line = SoundLine::new(alloc);
+            add_line(&mut lines, Box::new(alloc, line)?)?;
+        }
+        let files = [
+            ("a1.txt", MACHINE.as_bytes()),
+            ("hello.sqi", HELLO.as_slice()),
+            ("s.txt", row.schedule.as_bytes()),
+        ];
+        let (status, entries) = run(
+            alloc,
+            &["run", "a1.txt", "s.txt"],
+            &files,
+            row.failing,
+            &mut lines,
+        )?;
+        assert_eq!(rt; status, row.status, "{}", row.schedule);
+        assert_eq!(rt; entries, Some(row.entries), "{}", row.schedule);
+        assert_eq!(rt; lines.len(), 16);
+        assert_eq!(rt; lines[0].line.accepted(), row.bytes.len() as u64);
+        assert_eq!(rt; lines[0].line.byte_at(0), row.bytes.first().copied());
+    }
+    Ok(())
+}
