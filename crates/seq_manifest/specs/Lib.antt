@@ -1,0 +1,4 @@
+pub mod Statements
+pub mod Drafts
+pub mod Faults
+pub mod Kept

@@ -1,0 +1,10 @@
+//! Descriptions of machines, as a text says them.
+#![tactic(auto)]
+
+mod draft;
+mod heading;
+mod lists;
+mod parts;
+mod statement;
+
+pub use draft::Draft;
