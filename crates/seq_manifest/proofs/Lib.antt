@@ -1,3 +1,9 @@
 pub mod Commas
 pub mod Sequences
 pub mod Forms
+pub mod Saying
+pub mod Below
+pub mod Keeping
+pub mod Lines
+pub mod Ones
+pub mod Steps

@@ -30,7 +30,7 @@ process_of part = process part.1 (numbers_in part.0.lines) (numbers_in part.0.gr
 
 -- What the lines of a description say: the first lines with these numbers, then the segments with the names of their
 -- files, then the processes with the names of theirs.
-abbrev pub said_by : Parts → List Statement
+unfoldable pub said_by : Parts → List Statement
 said_by parts =
     map (λ part. heading part.0 part.1) (zip headings parts.numbers)
     ++ map segment_of (zip parts.segments parts.firsts)

@@ -1,6 +1,6 @@
 -- The first rule that a text violates, with its line from 1.
-use Rattle.std.specs.Prelude.{ℕ, ◌+◌, ◌%◌, Bool, true, false, not, ◌&&◌, ◌||◌, ◌==◌, nat_lt, nat_le, if◌then◌else◌, List, [], ◌∷◌, ◌++◌, length, Option, Some, None, count_by}
-use Rattle.std.specs.List.{list_any, range_with_len}
+use Rattle.std.specs.Prelude.{ℕ, zero, suc, ◌+◌, ◌%◌, Bool, true, false, not, ◌&&◌, ◌||◌, ◌==◌, nat_lt, nat_le, if◌then◌else◌, List, [], ◌∷◌, ◌++◌, length, Option, Some, None, count_by}
+use Rattle.std.specs.List.{list_any}
 use Rattle.std.specs.Option.{option_map}
 use Rattle.seq_text.specs.Lines.{lines_of}
 use Rattle.seq_text.specs.Words.{words_of}
@@ -106,9 +106,14 @@ with_said before (Some s) = before ++ s ∷ []
 abbrev pub with_line : List Statement → List (List ℕ) → List Statement
 with_line before words = if is_passed_over words then before else with_said before (said words)
 
+-- some number below n passes the test
+unfoldable pub some_below : ℕ → (ℕ → Bool) → Bool
+some_below zero test = false
+some_below (suc n) test = some_below n test || test n
+
 -- some line has no owner, and one above it has one
 unfoldable pub has_gap : List Statement → Bool
-has_gap before = list_any (λ l. not (is_owned before l) && list_any (λ above. nat_lt l above && is_owned before above) (range_with_len 0 16)) (range_with_len 0 16)
+has_gap before = some_below 16 (λ l. not (is_owned before l) && some_below 16 (λ above. nat_lt l above && is_owned before above))
 
 -- Rules at the end of the text. Rule 11: it ends before a process. Rule 15: a line below the greatest has no owner.
 abbrev pub end_rule : List Statement → Option ℕ

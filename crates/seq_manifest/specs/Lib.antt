@@ -2,3 +2,4 @@ pub mod Statements
 pub mod Drafts
 pub mod Faults
 pub mod Kept
+pub mod Taking

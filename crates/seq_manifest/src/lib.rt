@@ -5,6 +5,7 @@ mod draft;
 mod heading;
 mod lists;
 mod parts;
+mod reading;
 mod statement;
 
 pub use draft::Draft;
