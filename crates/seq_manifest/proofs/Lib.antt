@@ -6,4 +6,10 @@ pub mod Below
 pub mod Keeping
 pub mod Lines
 pub mod Ones
+pub mod Ascending
 pub mod Steps
+pub mod Taken
+pub mod Texts
+pub mod Errors
+pub mod Numbering
+pub mod Whole

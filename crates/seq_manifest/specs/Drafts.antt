@@ -1,5 +1,5 @@
 -- Which text describes which draft of a machine.
-use Rattle.std.specs.Prelude.{◌≡◌, ◌≤◌, ◌<◌, ℕ, Bool, true, not, ◌⊎◌, nat_lt, if◌then◌else◌, map, List, [], ◌∷◌, ◌++◌, length, Some, All, count_ones}
+use Rattle.std.specs.Prelude.{◌≡◌, ◌≤◌, ◌<◌, ◌^◌, ℕ, Bool, true, not, ◌⊎◌, nat_lt, if◌then◌else◌, map, List, [], ◌∷◌, ◌++◌, length, Some, All, count_ones}
 use Rattle.std.specs.List.{filter, zip, range_with_len}
 use Rattle.seq_words.specs.declared.description.MachineDesc.{MachineDesc}
 use Rattle.seq_words.specs.declared.description.SegmentDesc.{SegmentDesc}
@@ -55,6 +55,8 @@ pub record IsProcessDraft (segments : ℕ) (p : ProcessDesc) : Type 0 where
   pub size : p.size ≡ 0
   pub entry : p.entry ≡ 0
   pub image : p.image ≡ []
+  pub line_mask : p.lines < 2 ^ 16
+  pub grant_mask : p.grants < 2 ^ 16
   pub few : count_ones p.lines ≤ 4
   pub granted : (s : ℕ) → has_bit p.grants s ≡ true → s < segments
 

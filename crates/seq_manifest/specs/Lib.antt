@@ -3,3 +3,4 @@ pub mod Drafts
 pub mod Faults
 pub mod Kept
 pub mod Taking
+pub mod Errors

@@ -1,8 +1,7 @@
 -- How a statement that is kept is tried and taken.
-use Rattle.std.specs.Prelude.{◌≡◌, ◌≤◌, ◌<◌, ◌^◌, ℕ, ◌+◌, Bool, true, false, not, ◌&&◌, ◌||◌, ◌⊎◌, ◌==◌, nat_lt, nat_le, if◌then◌else◌, Option, Some, None, List, [], ◌∷◌, ◌++◌, length, count_by}
+use Rattle.std.specs.Prelude.{◌≡◌, ◌≤◌, ◌<◌, ℕ, ◌+◌, Bool, true, false, not, ◌&&◌, ◌||◌, ◌⊎◌, ◌==◌, nat_lt, nat_le, if◌then◌else◌, Option, Some, None, List, [], ◌∷◌, ◌++◌, length, count_by}
 use Rattle.std.specs.List.{list_any, list_all, zip, AllByRecursion}
 use Rattle.seq_words.specs.Masks.{has_bit}
-use Rattle.seq_words.specs.declared.description.ProcessDesc.{ProcessDesc}
 use Rattle.seq_manifest.specs.declared.parts.Parts.{Parts}
 use Rattle.seq_manifest.specs.Statements.{Statement, is_file}
 use Rattle.seq_manifest.specs.Drafts.{headings, IsSegmentDraft, IsProcessDraft}
@@ -65,7 +64,6 @@ pub record IsParts (p : Parts) : Type 0 where
   pub each_first : AllByRecursion (λ name. (name ≡ []) ⊎ (is_file name ≡ true)) p.firsts
   pub processes : length p.processes ≤ 16
   pub each_process : AllByRecursion (IsProcessDraft (length p.segments)) p.processes
-  pub masks : AllByRecursion (λ q. (q.lines < 2 ^ 16) × (q.grants < 2 ^ 16)) p.processes
   pub images : length p.images ≡ length p.processes
   pub each_image : AllByRecursion (λ name. is_file name ≡ true) p.images
   pub apart : (l : ℕ) → count_by (λ q. has_bit q.lines l) p.processes ≤ 1

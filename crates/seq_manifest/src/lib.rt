@@ -2,6 +2,7 @@
 #![tactic(auto)]
 
 mod draft;
+mod ending;
 mod heading;
 mod lists;
 mod parts;

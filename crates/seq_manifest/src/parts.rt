@@ -72,7 +72,7 @@ impl Parts {
         self.segments.len()
     }
 
-    fn process_count(&self) -> usize
+    pub fn process_count(&self) -> usize
         requires { IsParts self.now }
         ensures count { result ≡ count_by is_process (said_by self.now) }
         ensures some { nat_lt 0 result ≡ list_any is_process (said_by self.now) }
@@ -81,7 +81,7 @@ impl Parts {
         self.processes.len()
     }
 
-    fn is_owned(&self, line: u8) -> bool
+    pub fn is_owned(&self, line: u8) -> bool
         requires there { line < 16 }
         requires parts { IsParts self.now }
         ensures { result ≡ is_owned (said_by self.now) line }

@@ -1,13 +1,16 @@
-ghost use Rattle.std.specs.Prelude.{◌≡◌, ◌==◌, ℕ, slice_index, Some, None, OnOk};
+ghost use Rattle.std.specs.Prelude.{◌≡◌, ◌==◌, ℕ, slice_index, Some, None, OnOk, IfOk};
 ghost use Rattle.seq_text.specs.Words.{words_of};
-ghost use Rattle.seq_manifest.specs.Drafts.{said_by};
-ghost use Rattle.seq_manifest.specs.Faults.{line_rule, with_line};
+ghost use Rattle.seq_manifest.specs.Drafts.{said_by, Describes};
+ghost use Rattle.seq_manifest.specs.Faults.{line_rule, with_line, first_fault};
 ghost use Rattle.seq_manifest.specs.Kept.{seen};
+ghost use Rattle.seq_manifest.specs.Errors.{error_at};
 ghost use Rattle.seq_manifest.specs.Taking.{IsParts, kept_rule, with_kept};
 
+use crate::Draft;
 use crate::parts::Parts;
 use crate::statement::{Statement, said};
-use seq_text::first_word;
+use seq_text::{first_word, next_line};
+use seq_words::ReadError;
 use std::alloc::Global;
 
 /// Why a line isn't taken.
@@ -16,6 +19,18 @@ pub enum LineError {
     /// It violates the rule of this number.
     Broken(u16),
     NoMemory,
+}
+
+impl LineError {
+    // The same of the line at a place.
+    fn at(self, place: u64) -> ReadError
+        ensures { result ≡ error_at place self }
+    {
+        match self {
+            LineError::Broken(rule) => ReadError::Refused { place, rule },
+            LineError::NoMemory => ReadError::NoMemory,
+        }
+    }
 }
 
 // Rule 10: a line is none of the forms.
@@ -66,5 +81,29 @@ impl Parts {
             return Err(LineError::Broken(NO_FORM));
         };
         self.take(alloc, &statement)
+    }
+}
+
+fn read_lines(alloc: Global, text: &[u8]) -> Result<Draft, ReadError>
+    ensures value { IfOk result (λ d. Describes text.now d) }
+    ensures none { OnOk result (first_fault text.now ≡ None) }
+    ensures refused { (place rule : ℕ) → result ≡ Err (ReadError.Refused place rule) →
+        first_fault text.now ≡ Some (place, rule) }
+{
+    let mut parts = Parts::new(alloc);
+    let mut place = 1;
+    let mut rest = text;
+    'lines: while !rest.is_empty() {
+        let (line, after) = next_line(rest);
+        match parts.take_line(alloc, line) {
+            Ok(()) => {}
+            Err(error) => return Err(error.at(place)),
+        }
+        place += 1;
+        rest = after;
+    }
+    match parts.end_rule() {
+        Some(rule) => Err(ReadError::Refused { place, rule }),
+        None => Ok(parts.draft()),
     }
 }
