@@ -13,3 +13,5 @@ pub mod Texts
 pub mod Errors
 pub mod Numbering
 pub mod Whole
+pub mod Exists
+pub mod Faultless

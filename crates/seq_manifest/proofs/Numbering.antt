@@ -44,7 +44,7 @@ unfolding numbers_in
 line_count-is segments qs h = sum-ones segments qs h ∙ bits_by_line qs 0 16
 
 -- ---- one owner at most
-some_owner : (qs : List ProcessDesc) (l : ℕ) → list_any (λ q. has_bit q.lines l) qs ≡ true → 1 ≤ owners qs l
+pub some_owner : (qs : List ProcessDesc) (l : ℕ) → list_any (λ q. has_bit q.lines l) qs ≡ true → 1 ≤ owners qs l
 some_owner [] l e = absurd (false≢true e)
 some_owner (q ∷ qs) l e = elim (or_cases (has_bit q.lines l) (list_any (λ q. has_bit q.lines l) qs) e) [
   | inl here ↦ let c = sum_by-cons (λ q. cond (has_bit q.lines l) 1 0) q qs in omega (arith, c, ap (λ b. cond {A = ℕ} b 1 0) here)

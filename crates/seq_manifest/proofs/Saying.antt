@@ -35,19 +35,19 @@ said_by-pieces p = refl
 length-zipped : {A B : Type 0} (xs : List A) (ys : List B) → length ys ≤ length xs → length (zip xs ys) ≡ length ys
 length-zipped xs ys le = length-zip xs ys ∙ min-eq_right le
 
-length-zip_same : {A B : Type 0} (xs : List A) (ys : List B) → length ys ≡ length xs → length (zip xs ys) ≡ length xs
+pub length-zip_same : {A B : Type 0} (xs : List A) (ys : List B) → length ys ≡ length xs → length (zip xs ys) ≡ length xs
 length-zip_same xs ys e = length-zip xs ys ∙ min-eq_left (omega (arith, e))
 
 -- a count and a test over what a function makes
-count-no : {A : Type 0} (test : Statement → Bool) (f : A → Statement) (fails : (x : A) → test (f x) ≡ false) (xs : List A) → count_by test (map f xs) ≡ 0
+pub count-no : {A : Type 0} (test : Statement → Bool) (f : A → Statement) (fails : (x : A) → test (f x) ≡ false) (xs : List A) → count_by test (map f xs) ≡ 0
 count-no test f fails [] = refl
 count-no test f fails (x ∷ xs) = sum_by-cons (λ s. cond (test s) 1 0) (f x) (map f xs) ∙ rw (fails x) (zero-add _ ∙ count-no test f fails xs)
 
-count-yes : {A : Type 0} (test : Statement → Bool) (f : A → Statement) (passes : (x : A) → test (f x) ≡ true) (xs : List A) → count_by test (map f xs) ≡ length xs
+pub count-yes : {A : Type 0} (test : Statement → Bool) (f : A → Statement) (passes : (x : A) → test (f x) ≡ true) (xs : List A) → count_by test (map f xs) ≡ length xs
 count-yes test f passes [] = refl
 count-yes test f passes (x ∷ xs) = sum_by-cons (λ s. cond (test s) 1 0) (f x) (map f xs) ∙ rw (passes x) (let e = count-yes test f passes xs in omega (arith, e))
 
-any-no : {A : Type 0} (test : Statement → Bool) (f : A → Statement) (fails : (x : A) → test (f x) ≡ false) (xs : List A) → list_any test (map f xs) ≡ false
+pub any-no : {A : Type 0} (test : Statement → Bool) (f : A → Statement) (fails : (x : A) → test (f x) ≡ false) (xs : List A) → list_any test (map f xs) ≡ false
 any-no test f fails [] = refl
 any-no test f fails (x ∷ xs) = rw (fails x) (any-no test f fails xs)
 

@@ -4,6 +4,7 @@
 mod draft;
 mod ending;
 mod heading;
+mod laws;
 mod lists;
 mod parts;
 mod reading;
