@@ -1,4 +1,4 @@
-ghost use Rattle.std.specs.Prelude.{◌≡◌, ℕ, Some, ◌<◌, ◌^◌, ◌==◌, true, not, ◌&&◌, ◌||◌, nat_lt, length};
+ghost use Rattle.std.specs.Prelude.{◌≡◌, ℕ, Some, IfSome, ◌≤◌, ◌<◌, ◌^◌, ◌==◌, true, not, ◌&&◌, ◌||◌, nat_lt, length};
 ghost use Rattle.std.specs.List.{list_all};
 ghost use Rattle.std.specs.Option.{option_map};
 ghost use Rattle.std.specs.Str.Parse.{digits_value};
@@ -43,7 +43,8 @@ fn value(word: &[u8]) -> u64
 
 /// The number that a word writes in decimal digits, without sign and without leading zeros, however many there are.
 pub fn number(word: &[u8]) -> Option<u64>
-    ensures { result ≡ option_map capped (number_of word.now) }
+    ensures value { result ≡ option_map capped (number_of word.now) }
+    ensures small { IfSome result (λ n. n ≤ 10 ^ 18) }
 {
     if !is_number(word) {
         None

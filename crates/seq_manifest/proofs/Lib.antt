@@ -1,0 +1,17 @@
+pub mod Commas
+pub mod Sequences
+pub mod Forms
+pub mod Saying
+pub mod Below
+pub mod Keeping
+pub mod Lines
+pub mod Ones
+pub mod Ascending
+pub mod Steps
+pub mod Taken
+pub mod Texts
+pub mod Errors
+pub mod Numbering
+pub mod Whole
+pub mod Exists
+pub mod Faultless

@@ -1,0 +1,6 @@
+use Rattle.std.proofs.Common.{arith}
+use Rattle.seq_manifest.proofs.Saying.{length-said_by}
+use Rattle.seq_manifest.proofs.parts.Parts.count.Goals as goal
+
+pub returns : goal.returns
+returns c = let e = length-said_by c.args.self.now c.requires in omega (arith, e)
