@@ -1,68 +1,64 @@
--- The description that is built, with an image, describes a machine.
-use Rattle.std.proofs.Common.{◌≡◌, ℕ, zero, suc, ◌/◌, ◌^◌, ◌<◌, Bool, true, false, List, [], ◌∷◌, get_or, arith, refl, sym, ◌∙◌, ap, subst, nat_lt, lit≤, inl, inr}
-use Rattle.std.proofs.lemmas.Bool.{false≢true, le-ltb, cases_eq}
-use Rattle.std.proofs.lemmas.Nat.{zero_from_ones, ones_le_self}
-use Rattle.std.specs.Prelude.{count_by, count_ones, if◌then◌else◌}
-use Rattle.std.proofs.Math.Nat.{div-eq_of_lt, zero-div}
-use Rattle.std.proofs.Math.Pow.{pow-lt}
+-- A draft that is built, with an image, describes a machine.
+use Rattle.std.proofs.Common.{◌≡◌, ℕ, zero, suc, ◌<◌, Bool, true, List, [], ◌∷◌, length, get_or, set, arith, refl, sym, ◌∙◌, ap, subst, lit≤}
+use Rattle.std.specs.Prelude.{◌&&◌, ◌==◌, nat_le, nat_lt, count_ones, count_by, sum_by, if◌then◌else◌}
+use Rattle.std.proofs.lemmas.Bool.{and_parts, eqb-true}
 use Rattle.seq_words.specs.Masks.{has_bit}
+use Rattle.seq_words.specs.declared.description.MachineDesc.{MachineDesc}
+use Rattle.seq_words.specs.declared.description.SegmentDesc.{SegmentDesc}
 use Rattle.seq_words.specs.declared.description.ProcessDesc.{ProcessDesc}
-use Rattle.seq_words.specs.Description.{IsDescription, IsProcess, line_count}
+use Rattle.seq_words.specs.Description.{IsDescription, IsProcess, IsSegment}
 use Rattle.seq_loader.specs.declared.image.Image.{Image}
 use Rattle.seq_loader.specs.Image.{IsImage}
-use Rattle.seq_cli.specs.declared.description.Draft.{Draft}
-use Rattle.seq_cli.specs.Description.{Describes, sample_draft}
-use Rattle.seq_cli.specs.Opening.{with_image}
+use Rattle.seq_manifest.specs.declared.draft.Draft.{Draft}
+use Rattle.seq_manifest.specs.Drafts.{IsDraft, IsProcessDraft, IsSegmentDraft}
+use Rattle.seq_cli.specs.Opening.{is_built, no_process, with_image}
 
--- the mask 1 has bit 0 alone
-one_bit : (l : ℕ) → has_bit 1 l ≡ nat_lt l 1
-one_bit zero = refl
-one_bit (suc l) =
-    let above : 1 < 2 ^ suc l = pow-lt {i = 0} {j = suc l} (omega arith) in
-    let none : 1 / 2 ^ suc l ≡ 0 = div-eq_of_lt above in
-    rw (none, le-ltb (suc l) 1 (omega arith)) refl
+-- a description that is built has one process
+pub one_process : (d : MachineDesc) → is_built d ≡ true → length d.processes ≡ 1
+one_process d built =
+    let few = and_parts ((d.processors == 1) && (d.ios == 1) && (length d.segments == 0) && (length d.processes == 1)) (nat_le (count_ones (get_or d.processes 0 no_process).lines) 1) built in
+    let one = and_parts ((d.processors == 1) && (d.ios == 1) && (length d.segments == 0)) (length d.processes == 1) few.0 in
+    eqb-true (length d.processes) 1 one.1
 
--- and so one bit
-one_count : count_ones 1 ≡ 1
-one_count = elim (cases_eq (count_ones 1) 0) [
-  | inl none ↦ absurd (let c : 1 ≡ 0 = zero_from_ones 1 none in omega arith)
-  | inr some ↦ let few = ones_le_self 1 in omega (arith, few, some)
-]
+single : (ps : List ProcessDesc) → length ps ≡ 1 → (p : ProcessDesc) × (ps ≡ p ∷ [])
+single [] one = absurd (let c : ⊥ = omega arith in c)
+single (p ∷ []) one = (p, refl)
+single (p ∷ q ∷ ps) one = absurd (let c : ⊥ = omega arith in c)
 
-counted : (test : Bool) (p : ProcessDesc) → count_by (λ (q : ProcessDesc). test) (p ∷ []) ≡ (if test then 1 else 0)
-counted true p = refl
-counted false p = refl
+-- the process with its image
+with_process_image : ProcessDesc → Image → ProcessDesc
+with_process_image p i = record p { size = i.size; entry = i.entry; image = i.bytes }
 
--- the mask 0 has no bit
-no_bit : (s : ℕ) → has_bit 0 s ≡ false
-no_bit s =
-    let none : 0 / 2 ^ s ≡ 0 = zero-div (2 ^ s) in
-    rw none refl
+empty_first : (s : SegmentDesc) → IsSegmentDraft s → IsSegment s
+empty_first s h = record { size = h.size; first = let none : length s.first ≡ 0 = ap length h.first in omega (arith, none) }
 
-pub described_sample : (i : Image) → IsImage i → IsDescription (with_image sample_draft.desc 0 i)
-described_sample i h = record {
-  processors = record { low_at = lit≤ tt; high_at = lit≤ tt };
-  memories = record { low_at = lit≤ tt; high_at = lit≤ tt };
-  ios = record { low_at = lit≤ tt; high_at = lit≤ tt };
-  cache = record { low_at = lit≤ tt; high_at = lit≤ tt };
-  quantum = record { low_at = lit≤ tt; high_at = lit≤ tt };
-  journal = record { between = record { low_at = lit≤ tt; high_at = lit≤ tt }; whole = refl };
-  segments = lit≤ tt;
-  each_segment = λ k d lt. absurd (let c : ⊥ = omega arith in c);
+described_one : (d : Draft) (p : ProcessDesc) (i : Image) → d.desc.processes ≡ p ∷ [] → IsDraft d → IsImage i → IsDescription (with_image d.desc 0 i)
+unfolding with_process_image
+described_one d p i is h image = subst Claim (sym is) (record {
+  processors = h.processors;
+  memories = h.memories;
+  ios = h.ios;
+  cache = h.cache;
+  quantum = h.quantum;
+  journal = h.journal;
+  segments = h.segments;
+  each_segment = λ k e lt. empty_first _ (h.each_segment k e lt);
   processes = record { low_at = lit≤ tt; high_at = lit≤ tt };
   each_process = process;
-  lines = λ l. ap (λ (test : Bool). count_by (λ (q : ProcessDesc). test) (runs ∷ [])) (one_bit l) ∙ counted (nat_lt l 1) runs ∙ ap (λ (n : ℕ). if nat_lt l n then 1 else 0) (sym all_lines);
-}
+  lines = λ l. owners l;
+})
   where
-    runs : ProcessDesc
-    runs = record { size = i.size; entry = i.entry; image = i.bytes; lines = 1; grants = 0 }
+    Claim : List ProcessDesc → Type 0
+    Claim ps = IsDescription (record d.desc { processes = set ps 0 (with_process_image (get_or ps 0 no_process) i) })
+    draft_of : IsProcessDraft (length d.desc.segments) p
+    draft_of = subst (λ (ps : List ProcessDesc). IsProcessDraft (length d.desc.segments) (get_or ps 0 no_process)) is (h.each_process 0 no_process (let one : length d.desc.processes ≡ 1 = ap length is in omega (arith, one)))
+    process : (k : ℕ) (e : ProcessDesc) → k < 1 → IsProcess (length d.desc.segments) (get_or (with_process_image p i ∷ []) k e)
+    process zero e lt = record { size = image.size; image = image.fits; aligned = image.aligned; inside = image.inside; granted = draft_of.granted }
+    process (suc k) e lt = absurd (let c : ⊥ = omega arith in c)
+    owners : (l : ℕ) → count_by (λ (q : ProcessDesc). has_bit q.lines l) (with_process_image p i ∷ []) ≡ (if nat_lt l (sum_by (λ (q : ProcessDesc). count_ones q.lines) (with_process_image p i ∷ [])) then 1 else 0)
+    owners l = subst (λ (ps : List ProcessDesc). count_by (λ (q : ProcessDesc). has_bit q.lines l) ps ≡ (if nat_lt l (sum_by (λ (q : ProcessDesc). count_ones q.lines) ps) then 1 else 0)) is (h.lines l)
 
-    all_lines : line_count (with_image sample_draft.desc 0 i) ≡ 1
-    all_lines = let one : count_ones 1 ≡ 1 = one_count in omega (arith, one)
-
-    process : (k : ℕ) (d : ProcessDesc) → k < 1 → IsProcess 0 (get_or (runs ∷ []) k d)
-    process zero d lt = record { size = h.size; image = h.fits; aligned = h.aligned; inside = h.inside; granted = λ s e. absurd (false≢true (sym (no_bit s) ∙ e)) }
-    process (suc k) d lt = absurd (let c : ⊥ = omega arith in c)
-
-pub described : (text : List ℕ) (draft : Draft) (i : Image) → Describes text draft → IsImage i → IsDescription (with_image draft.desc 0 i)
-described text draft i says image = subst (λ (d : Draft). IsDescription (with_image d.desc 0 i)) (sym says.draft_is) (described_sample i image)
+pub described : (d : Draft) (i : Image) → is_built d.desc ≡ true → IsDraft d → IsImage i → IsDescription (with_image d.desc 0 i)
+described d i built h image =
+    let one = single d.desc.processes (one_process d.desc built) in
+    described_one d one.0 i one.1 h image

@@ -5,7 +5,9 @@ use Rattle.seq_words.specs.declared.events.ReadError.{ReadError}
 use Rattle.seq_words.specs.declared.events.ReadError.TheVariants as read
 use Rattle.seq_cli.specs.declared.status.Status.{Status}
 use Rattle.seq_cli.specs.declared.status.Status.TheVariants.{Done, Usage, Refused, Absent, ShelfFault, ChronicleFault, LineFault, NoMemory}
-use Rattle.seq_cli.specs.Opening.{Opening, absent, refused, file_fault, file_limit, OpensText, OpensFile}
+use Rattle.seq_shelf.specs.Told.{Map}
+use Rattle.seq_manifest.specs.declared.draft.Draft.{Draft}
+use Rattle.seq_cli.specs.Opening.{Opening, absent, refused, file_fault, file_limit, is_built, OpensText, OpensFile, OpensBuilt, OpensMachine}
 use Rattle.seq_cli.specs.Loads.{Loads, LoadStops, TextStops, Stops, status_of}
 
 -- a text above the limit violates rule 1, and no other
@@ -58,3 +60,12 @@ stops_next Usage file fault Spelled next content value h then = absurd then
 stops_next Done file fault Spelled next content value h then = absurd then
 stops_next ChronicleFault file fault Spelled next content value h then = absurd then
 stops_next (LineFault line) file fault Spelled next content value h then = absurd then
+
+-- a description that is built leads on to its image
+pub stops_built : (status : Status) (map : Map) (schedule : List ℕ) (draft : Draft) → is_built draft.desc ≡ true → Stops (OpensBuilt true map schedule draft) status → Stops (OpensMachine map schedule draft) status
+stops_built status map schedule draft built stops = subst (λ b. Stops (OpensBuilt b map schedule draft) status) (sym built) stops
+
+-- a reader that gives a value has found no fault
+pub none_found : {A : Type 0} (fault : Option (ℕ × ℕ)) (value : A) → ((place rule : ℕ) → fault ≡ Some (place, rule) → (◌≡◌ {A = Result A ReadError} (Ok value) (Err (read.Refused place rule))) ⊎ (◌≡◌ {A = Result A ReadError} (Ok value) (Err read.NoMemory))) → fault ≡ None
+none_found None value h = refl
+none_found (Some f) value h = absurd (elim (h f.0 f.1 refl) [ inl e ↦ cc | inr e ↦ cc ])

@@ -1,7 +1,6 @@
 pub mod Lines
 pub mod Numbers
 pub mod Schedule
-pub mod Description
 pub mod Opening
 pub mod Loads
 pub mod Plain

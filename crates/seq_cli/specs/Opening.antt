@@ -1,5 +1,5 @@
 -- What the words and the files ask for: an answer before any run, or a run.
-use Rattle.std.specs.Prelude.{◌≡◌, ℕ, Bool, false, not, ◌&&◌, ◌==◌, if◌then◌else◌, nat_lt, Option, Some, None, List, [], ◌∷◌, length, codes, slice_set, slice_index_or}
+use Rattle.std.specs.Prelude.{◌≡◌, ℕ, Bool, false, not, ◌&&◌, ◌==◌, if◌then◌else◌, nat_lt, nat_le, count_ones, Option, Some, None, List, [], ◌∷◌, length, codes, slice_set, slice_index_or}
 use Rattle.std.specs.Str.{bytes_eq}
 use Rattle.seq_words.specs.declared.description.MachineDesc.{MachineDesc}
 use Rattle.seq_words.specs.declared.description.ProcessDesc.{ProcessDesc}
@@ -8,10 +8,11 @@ use Rattle.seq_shelf.specs.Told.{Map}
 use Rattle.seq_loader.specs.declared.image.Image.{Image}
 use Rattle.seq_loader.specs.Image.{Spells}
 use Rattle.seq_loader.specs.Faults.{first_fault}
-use Rattle.seq_cli.specs.declared.description.Draft.{Draft}
+use Rattle.seq_manifest.specs.declared.draft.Draft.{Draft}
+use Rattle.seq_manifest.specs.Drafts.{Describes}
+use Rattle.seq_manifest.specs.Faults.{first_fault as description_fault}
 use Rattle.seq_cli.specs.declared.status.Status.{Status}
 use Rattle.seq_cli.specs.declared.status.Status.TheVariants.{Done, Usage, Refused, Absent, ShelfFault, ChronicleFault, LineFault, NoMemory}
-use Rattle.seq_cli.specs.Description.{Describes, description_fault}
 use Rattle.seq_cli.specs.Schedule.{schedule_of}
 
 pub data Opening : Type 0 where
@@ -77,8 +78,19 @@ OpensSchedule d events o = o ≡ ready d events
 abbrev pub OpensImage : Map → List ℕ → Draft → Image → Opening → Type 0
 OpensImage map schedule draft i o = OpensFile 2 schedule_fault Schedules (OpensSchedule (with_image draft.desc 0 i)) (map schedule) o
 
+-- what the plain machine runs: one processor, one I/O element, no segment, and one process, which owns at most one line
+abbrev pub is_built : MachineDesc → Bool
+is_built d =
+    (d.processors == 1) && (d.ios == 1) && (length d.segments == 0) && (length d.processes == 1)
+    && nat_le (count_ones (slice_index_or d.processes 0 no_process).lines) 1
+
+-- every other description is refused at its beginning
+abbrev pub OpensBuilt : Bool → Map → List ℕ → Draft → Opening → Type 0
+OpensBuilt true map schedule draft o = OpensFile 1 first_fault Spells (OpensImage map schedule draft) (map (slice_index_or draft.images 0 [])) o
+OpensBuilt false map schedule draft o = o ≡ refused 0 0 0
+
 abbrev pub OpensMachine : Map → List ℕ → Draft → Opening → Type 0
-OpensMachine map schedule draft o = OpensFile 1 first_fault Spells (OpensImage map schedule draft) (map (slice_index_or draft.images 0 [])) o
+OpensMachine map schedule draft o = OpensBuilt (is_built draft.desc) map schedule draft o
 
 abbrev pub OpensForm : Map → Option (List ℕ × List ℕ) → Opening → Type 0
 OpensForm map None o = o ≡ usage

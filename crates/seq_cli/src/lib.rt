@@ -1,7 +1,6 @@
 //! The top call of the program: what the words and the files ask for, the run, and the status with which it ends.
 #![tactic(auto)]
 
-mod description;
 mod opening;
 mod plain;
 mod schedule;

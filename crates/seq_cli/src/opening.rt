@@ -1,18 +1,20 @@
 // What is loaded before a run: the machine's file, its image, and the schedule.
-ghost use Rattle.std.specs.Prelude.{◌≡◌, ◌<◌, ◌≤◌, ℕ, List, [], length, IfOk, IfErr, IsErrOf, IfSome, Some, None, Option, MatchOption, map as list_map, string_bytes, OnOk, slice_index_or};
+ghost use Rattle.std.specs.Prelude.{◌≡◌, ◌<◌, ◌≤◌, ℕ, List, [], length, IfOk, IfErr, IsErrOf, true, Some, None, Option, MatchOption, map as list_map, string_bytes, OnOk, slice_index_or};
 ghost use Rattle.seq_words.specs.Description.{IsDescription};
 ghost use Rattle.seq_shelf.specs.Causes.{Rose};
 ghost use Rattle.seq_shelf.specs.Told.{Map};
 ghost use Rattle.seq_loader.specs.Image.{Spells, IsImage};
 ghost use Rattle.seq_loader.specs.Faults.{first_fault};
-ghost use Rattle.seq_cli.specs.Description.{Describes, description_fault};
-ghost use Rattle.seq_cli.specs.Opening.{is_name, form_of, file_fault, with_image, schedule_fault, Schedules, OpensForm, ready};
+ghost use Rattle.seq_manifest.specs.Drafts.{Describes, IsDraft};
+ghost use Rattle.seq_manifest.specs.Statements.{is_file};
+ghost use Rattle.seq_manifest.specs.Faults.{first_fault as description_fault};
+ghost use Rattle.seq_cli.specs.Opening.{is_name, form_of, is_built, with_image, schedule_fault, Schedules, OpensForm, ready};
 ghost use Rattle.seq_cli.specs.Loads.{Loads, LoadStops, TextStops, IsLoadStop, Stops, status_of};
 
 use crate::Status;
-use crate::description::Draft;
 use crate::schedule::read_schedule;
 use seq_loader::{Image, read_image};
+use seq_manifest::{Draft, read as read_description};
 use seq_shelf::{LoadError, Shelf};
 use seq_words::{Bytes, Event, Items, MachineDesc, ReadError};
 use std::alloc::Global;
@@ -96,13 +98,13 @@ fn load_machine<S: Shelf>(alloc: Global, shelf: &mut S, name: &str) -> Result<Dr
     ensures early { IfErr result IsLoadStop }
     ensures ok { (m : Map) → (S.shelf shelf.old).told ≡ Some m → IfOk result (Loads description_fault Describes (m name.now)) }
     ensures err { (m : Map) → (S.shelf shelf.old).told ≡ Some m → IfErr result (λ s. LoadStops s 0 description_fault (m name.now)) }
-    ensures described { IfOk result (λ draft. (text : List ℕ) × Describes text draft) }
+    ensures draft { IfOk result IsDraft }
 {
     let text = match load(shelf, 0, name) {
         Ok(text) => text,
         Err(status) => return Err(status),
     };
-    match Draft::read(alloc, text.as_slice()) {
+    match read_description(alloc, text.as_slice()) {
         Ok(draft) => Ok(draft),
         Err(error) => Err(unread(0, error)),
     }
@@ -171,12 +173,35 @@ pub struct Loaded {
     pub events: Items<Event>,
 }
 
-// The name of the image of process 0.
-fn image_name(draft: &Draft) -> Option<&str>
-    requires { 0 < length draft.now.images }
-    ensures { IfSome result (λ name. name.now ≡ slice_index_or draft.now.images 0 []) }
+// Whether the plain machine runs this description.
+fn is_built(desc: &MachineDesc) -> bool
+    ensures { result ≡ is_built desc.now }
 {
-    str::from_utf8(draft.images.at(0).as_slice()).ok()
+    desc.processors == 1
+        && desc.ios == 1
+        && desc.segments.len() == 0
+        && desc.processes.len() == 1
+        && desc.processes.at(0).lines.count_ones() <= 1
+}
+
+// The name of a file, which is text.
+fn file_name(word: &[u8]) -> &str
+    requires { is_file word.now ≡ true }
+    ensures { result.now ≡ word.now }
+{
+    match str::from_utf8(word) {
+        Ok(name) => name,
+        Err(_) => unreachable!(),
+    }
+}
+
+// The name of the image of process 0.
+fn image_name(draft: &Draft) -> &str
+    requires draft { IsDraft draft.now }
+    requires one { length draft.now.desc.processes ≡ 1 }
+    ensures { result.now ≡ slice_index_or draft.now.images 0 [] }
+{
+    file_name(draft.images.at(0).as_slice())
 }
 
 // A description whose process runs the image.
@@ -212,11 +237,14 @@ pub fn open<S: Shelf>(
         Ok(draft) => draft,
         Err(status) => return Err(status),
     };
-    let name = match image_name(&draft) {
-        Some(name) => name,
-        None => return Err(Status::NoMemory),
-    };
-    let image = match load_image(alloc, shelf, 1, name) {
+    if !is_built(&draft.desc) {
+        return Err(Status::Refused {
+            file: 0,
+            place: 0,
+            rule: NOT_BUILT,
+        });
+    }
+    let image = match load_image(alloc, shelf, 1, image_name(&draft)) {
         Ok(image) => image,
         Err(status) => return Err(status),
     };
