@@ -15,3 +15,5 @@ pub mod Numbering
 pub mod Whole
 pub mod Exists
 pub mod Faultless
+pub mod Unique
+pub mod Answers

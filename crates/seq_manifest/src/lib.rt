@@ -11,3 +11,5 @@ mod reading;
 mod statement;
 
 pub use draft::Draft;
+pub use laws::one_draft;
+pub use reading::read;

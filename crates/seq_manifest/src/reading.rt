@@ -1,4 +1,4 @@
-ghost use Rattle.std.specs.Prelude.{◌≡◌, ◌==◌, ℕ, slice_index, Some, None, OnOk, IfOk};
+ghost use Rattle.std.specs.Prelude.{◌≡◌, ◌==◌, ℕ, slice_index, Some, None, OnOk, IfOk, ◌⊎◌};
 ghost use Rattle.seq_text.specs.Words.{words_of};
 ghost use Rattle.seq_manifest.specs.Drafts.{said_by, Describes};
 ghost use Rattle.seq_manifest.specs.Faults.{line_rule, with_line, first_fault};
@@ -106,4 +106,23 @@ fn read_lines(alloc: Global, text: &[u8]) -> Result<Draft, ReadError>
         Some(rule) => Err(ReadError::Refused { place, rule }),
         None => Ok(parts.draft()),
     }
+}
+
+/// Reads the description of a machine. A place is a line from 1, or one more than the last line's number for a rule at
+/// the end of the text.
+///
+/// Rule 10: a line is none of the forms, or a number isn't a number. 11: a line is out of order or one too many, or the
+/// text ends before a process. 12: a number is out of its limits. 13: a list doesn't ascend, has more than four lines,
+/// or names a line that is owned already. 14: a list names a segment that isn't there, or a line above 15. 15: a line
+/// below the greatest has no owner.
+pub fn read(alloc: Global, text: &[u8]) -> Result<Draft, ReadError>
+    ensures value { IfOk result (λ d. Describes text.now d) }
+    ensures read { (d : Draft) → Describes text.now d →
+        (result ≡ Ok d) ⊎ (result ≡ Err ReadError.NoMemory) }
+    ensures refused { (place rule : ℕ) → result ≡ Err (ReadError.Refused place rule) →
+        first_fault text.now ≡ Some (place, rule) }
+    ensures faulty { (place rule : ℕ) → first_fault text.now ≡ Some (place, rule) →
+        (result ≡ Err (ReadError.Refused place rule)) ⊎ (result ≡ Err ReadError.NoMemory) }
+{
+    read_lines(alloc, text)
 }
