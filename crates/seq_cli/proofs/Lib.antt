@@ -7,3 +7,4 @@ pub mod Going
 pub mod Runs
 pub mod Sound
 pub mod Tops
+pub mod Deterministic

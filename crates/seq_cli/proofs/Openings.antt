@@ -1,5 +1,5 @@
 -- Lemmas on what the words and files ask for.
-use Rattle.std.proofs.Common.{◌≡◌, ℕ, ◌<◌, ◌≤◌, Option, Some, List, length, refl, sym, ◌∙◌, ap, subst}
+use Rattle.std.proofs.Common.{true, inl, inr, ◌≡◌, ℕ, ◌<◌, ◌≤◌, Option, Some, List, length, refl, sym, ◌∙◌, ap, subst}
 use Rattle.std.proofs.lemmas.Bool.{lt-ltb, le-ltb}
 use Rattle.seq_words.specs.declared.events.ReadError.{ReadError}
 use Rattle.seq_words.specs.declared.events.ReadError.TheVariants as read
@@ -64,8 +64,3 @@ stops_next (LineFault line) file fault Spelled next content value h then = absur
 -- a description that is built leads on to its image
 pub stops_built : (status : Status) (map : Map) (schedule : List ℕ) (draft : Draft) → is_built draft.desc ≡ true → Stops (OpensBuilt true map schedule draft) status → Stops (OpensMachine map schedule draft) status
 stops_built status map schedule draft built stops = subst (λ b. Stops (OpensBuilt b map schedule draft) status) (sym built) stops
-
--- a reader that gives a value has found no fault
-pub none_found : {A : Type 0} (fault : Option (ℕ × ℕ)) (value : A) → ((place rule : ℕ) → fault ≡ Some (place, rule) → (◌≡◌ {A = Result A ReadError} (Ok value) (Err (read.Refused place rule))) ⊎ (◌≡◌ {A = Result A ReadError} (Ok value) (Err read.NoMemory))) → fault ≡ None
-none_found None value h = refl
-none_found (Some f) value h = absurd (elim (h f.0 f.1 refl) [ inl e ↦ cc | inr e ↦ cc ])

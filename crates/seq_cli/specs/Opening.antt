@@ -1,5 +1,5 @@
 -- What the words and the files ask for: an answer before any run, or a run.
-use Rattle.std.specs.Prelude.{◌≡◌, ℕ, Bool, false, not, ◌&&◌, ◌==◌, if◌then◌else◌, nat_lt, nat_le, count_ones, Option, Some, None, List, [], ◌∷◌, length, codes, slice_set, slice_index_or}
+use Rattle.std.specs.Prelude.{◌≡◌, ℕ, Bool, true, false, not, ◌&&◌, ◌==◌, if◌then◌else◌, nat_lt, nat_le, count_ones, Option, Some, None, List, [], ◌∷◌, length, codes, slice_set, slice_index_or}
 use Rattle.std.specs.Str.{bytes_eq}
 use Rattle.seq_words.specs.declared.description.MachineDesc.{MachineDesc}
 use Rattle.seq_words.specs.declared.description.ProcessDesc.{ProcessDesc}

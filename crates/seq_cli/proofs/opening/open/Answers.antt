@@ -53,7 +53,7 @@ returns-clause-ok g c = λ m told.
     let desc = with_image c.in-Ok.draft.desc 0 c.in-Ok-load_image.image in
     let end = ready c.add_image.result c.in-Ok-load_schedule.events in
     let after_image = opens_file 1 first_fault Spells (OpensImage m c.args.schedule.now c.in-Ok.draft) (m c.image_name.result.now) c.in-Ok-load_image.image end image
-        (opens_file 2 schedule_fault Schedules (OpensSchedule desc) (m c.args.schedule.now) c.in-Ok-load_schedule.events end events (ap (λ d. ready d c.in-Ok-load_schedule.events) c.add_image.ensures)) in
+    (opens_file 2 schedule_fault Schedules (OpensSchedule desc) (m c.args.schedule.now) c.in-Ok-load_schedule.events end events (ap (λ d. ready d c.in-Ok-load_schedule.events) c.add_image.ensures)) in
     opens_file 0 description_fault Describes (OpensMachine m c.args.schedule.now) (m c.args.machine.now) c.in-Ok.draft end machine
     (subst (λ b. OpensBuilt b m c.args.schedule.now c.in-Ok.draft end) (sym built)
     (subst (λ (n : List ℕ). OpensFile 1 first_fault Spells (OpensImage m c.args.schedule.now c.in-Ok.draft) (m n) end) c.image_name.ensures after_image))
