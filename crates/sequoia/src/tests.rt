@@ -6,6 +6,7 @@ ghost use Rattle.seq_cli.specs.Lines.{AreFresh};
 use super::*;
 use seq_shelf::{Line, MemChronicle, MemLine, MemShelf, Outlet, SoundLine, SoundSink};
 use seq_words::{Bytes, Entry, LineNo, Pid};
+use std::fs;
 use std::test::Fail;
 
 const MACHINE: &str =
@@ -219,5 +220,135 @@ fn rows(rt: HostRuntime) -> Result<(), Fail> {
         assert_eq!(rt; lines[0].line.accepted(), row.bytes.len() as u64);
         assert_eq!(rt; lines[0].line.byte_at(0), row.bytes.first().copied());
     }
+    Ok(())
+}
+
+// Commands that are answered before any run: the words, the description, the image, and the status.
+const RUN: &[&str] = &["run", "a1.txt", "s.txt"];
+
+const LONG_IMAGE: [u8; 17] = [
+    0x53, 0x51, 0x49, 0x31, 0x20, 0, 1, 0, 0, 0, 0, 0, 0, 0, 0, 0, 0,
+];
+
+const OPENINGS: [(&[&str], &str, &[u8], Status); 12] = [
+    (&[], MACHINE, &HELLO, Status::Usage),
+    (&["run", "a1.txt"], MACHINE, &HELLO, Status::Usage),
+    (&["run", "-a1.txt", "s.txt"], MACHINE, &HELLO, Status::Usage),
+    (&["run", "", "s.txt"], MACHINE, &HELLO, Status::Usage),
+    (&["walk", "a1.txt", "s.txt"], MACHINE, &HELLO, Status::Usage),
+    (
+        &["run", "a2.txt", "s.txt"],
+        MACHINE,
+        &HELLO,
+        Status::Absent { file: 0 },
+    ),
+    (
+        &["run", "a1.txt", "s2.txt"],
+        MACHINE,
+        &HELLO,
+        Status::Absent { file: 2 },
+    ),
+    (
+        RUN,
+        "# comment\nsequoia 1\nprocessors\t1\nmemories 2\nios 1\r\ncache 16\nquantum 1000\n\njournal 32\nprocess  none.sqi lines 0 segments -",
+        &HELLO,
+        Status::Absent { file: 1 },
+    ),
+    (
+        RUN,
+        "sequoia 1\nprocessors 0\nmemories 2\n",
+        &HELLO,
+        Status::Refused {
+            file: 0,
+            place: 2,
+            rule: 12,
+        },
+    ),
+    (
+        RUN,
+        "sequoia 1\nprocessors 2\nmemories 2\nios 1\ncache 16\nquantum 1000\njournal 32\nprocess hello.sqi lines 0 segments -\n",
+        &HELLO,
+        Status::Refused {
+            file: 0,
+            place: 0,
+            rule: 0,
+        },
+    ),
+    (
+        RUN,
+        MACHINE,
+        b"SQI1",
+        Status::Refused {
+            file: 1,
+            place: 4,
+            rule: 21,
+        },
+    ),
+    (
+        RUN,
+        MACHINE,
+        &LONG_IMAGE,
+        Status::Refused {
+            file: 1,
+            place: 4,
+            rule: 22,
+        },
+    ),
+];
+
+#[test]
+fn openings(rt: HostRuntime) -> Result<(), Fail> {
+    let alloc = rt.alloc();
+    for (words, machine, image, wanted) in OPENINGS {
+        let mut lines = Vec::new(alloc);
+        for n in 0u8..16 {
+            let line = SoundLine::new(alloc);
+            add_line(&mut lines, Box::new(alloc, line)?)?;
+        }
+        let files = [
+            ("a1.txt", machine.as_bytes()),
+            ("hello.sqi", image),
+            ("s.txt", EIGHT_STEPS.as_bytes()),
+        ];
+        let (status, entries) = run(alloc, words, &files, NONE, &mut lines)?;
+        assert_eq!(rt; status, wanted);
+        assert_eq!(rt; entries, Some(0));
+        assert_eq!(rt; lines.len(), 16);
+        assert_eq!(rt; lines[0].line.accepted(), 0);
+    }
+    Ok(())
+}
+
+// The same over files, with the bytes of line 0 in a file of its own.
+#[test]
+fn over_files(rt: HostRuntime) -> Result<(), Fail> {
+    let alloc = rt.alloc();
+    let mut shelf = FileShelf::new(&rt, alloc);
+    for (name, content) in [
+        ("a1.txt", MACHINE.as_bytes()),
+        ("hello.sqi", HELLO.as_slice()),
+        ("s.txt", EIGHT_STEPS.as_bytes()),
+    ] {
+        fs::write(&rt, name, content)?;
+    }
+    let mut lines = Vec::new(alloc);
+    for n in 0..LINES {
+        let line = FileLine::new(rt.clone()?, line_file(alloc, n)?);
+        add_line(&mut lines, Box::new(alloc, line)?)?;
+    }
+    let mut sink = OutSink::new(&rt);
+    let mut chronicle = SoundChronicle::new(alloc);
+    let words = words_of(alloc, RUN)?;
+    let status = sequoia(
+        alloc,
+        &words,
+        &mut shelf,
+        &mut lines,
+        &mut chronicle,
+        &mut sink,
+    );
+    assert_eq!(rt; status, Status::Done);
+    assert_eq!(rt; chronicle.pairs().len(), 8);
+    assert_eq!(rt; fs::read_to_string(&rt, "line0.out")?.as_str(), "A");
     Ok(())
 }
