@@ -1,7 +1,7 @@
 -- An ascending list is the numbers of its mask.
-use Rattle.std.proofs.Common.{◌≡◌, ℕ, zero, suc, ◌+◌, ◌<◌, ◌≤◌, Bool, true, false, ◌&&◌, ◌||◌, cond, ltb, leb, eqb, List, [], ◌∷◌, length, inl, inr, refl, sym, ap, subst, ◌∙◌, arith}
-use Rattle.std.specs.List.{list_any, filter, range_with_len, AllByRecursion}
-use Rattle.std.proofs.lemmas.Bool.{cases_lt, cases_eq, ltb-true, leb-false, eqb-true, eq-eqb, ne_eqb, lt-ltb, and_parts, and_from, or_parts, or_cases, false≢true}
+use Rattle.std.proofs.Common.{◌≡◌, ℕ, zero, suc, ◌+◌, ◌<◌, ◌≤◌, Bool, true, false, ◌||◌, cond, eqb, List, [], ◌∷◌, inl, inr, refl, sym, ap, subst, ◌∙◌, arith}
+use Rattle.std.specs.List.{filter, range_with_len}
+use Rattle.std.proofs.lemmas.Bool.{cases_lt, cases_eq, ltb-true, eq-eqb, ne_eqb, lt-ltb, and_parts, and_from, or_parts, false≢true}
 use Rattle.seq_words.specs.Masks.{has_bit}
 use Rattle.seq_manifest.specs.Drafts.{numbers_in}
 use Rattle.seq_manifest.specs.Faults.{is_in, is_ascending}
@@ -54,23 +54,25 @@ filter_is_in (m ∷ ms) lo zero asc from below = absurd (let lt = below m (here 
     here false e = absurd (false≢true e)
 filter_is_in (m ∷ ms) lo (suc n) asc from below = elim (cases_eq m lo) [
   | inl e ↦
-    let is : is_in (m ∷ ms) lo ≡ true = here (eqb m lo) (eq-eqb _ _ e) in
-    let t = tail_ascends m ms asc in
-    let rest = filter_is_in ms (lo + 1) n t.0 (subst (λ k. IsFrom (k + 1) ms) e t.1) (λ k i. omega (arith, below k (there (eqb m k) (is_in ms k) i))) in
-    let same = filter_same (is_in (m ∷ ms)) (is_in ms) (lo + 1) n (λ k le lt. let ne : eqb m k ≡ false = ne_eqb _ _ (λ z. absurd (omega (arith, z, e))) in rw ne refl) in
-    rw is (ap (λ k. k ∷ filter (is_in (m ∷ ms)) (range_with_len (lo + 1) n)) (sym e) ∙ ap (λ xs. m ∷ xs) (same ∙ rest))
+      let is : is_in (m ∷ ms) lo ≡ true = here (eqb m lo) (eq-eqb _ _ e) in
+      let t = tail_ascends m ms asc in
+      let rest = filter_is_in ms (lo + 1) n t.0 (subst (λ k. IsFrom (k + 1) ms) e t.1) (λ k i. omega (arith, below k (there (eqb m k) (is_in ms k) i))) in
+      let same = filter_same (is_in (m ∷ ms)) (is_in ms) (lo + 1) n (λ k le lt. let ne : eqb m k ≡ false = ne_eqb _ _ (λ z. absurd (omega (arith, z, e))) in rw ne refl) in
+      rw is (ap (λ k. k ∷ filter (is_in (m ∷ ms)) (range_with_len (lo + 1) n)) (sym e) ∙ ap (λ xs. m ∷ xs) (same ∙ rest))
   | inr ne ↦
-    let above : lo + 1 ≤ m = next lo m from ne in
-    let out : is_in (m ∷ ms) lo ≡ false = not_in (m ∷ ms) (lo + 1) lo asc above (omega arith) in
-    rw out (filter_is_in (m ∷ ms) (lo + 1) n asc above (λ k i. omega (arith, below k i)))
+      let above : lo + 1 ≤ m = next lo m from ne in
+      let out : is_in (m ∷ ms) lo ≡ false = not_in (m ∷ ms) (lo + 1) lo asc above (omega arith) in
+      rw out (filter_is_in (m ∷ ms) (lo + 1) n asc above (λ k i. omega (arith, below k i)))
 ]
   where
     here : (b : Bool) → b ≡ true → (b || is_in ms lo) ≡ true
     here true e = refl
     here false e = absurd (false≢true e)
+
     there : (a b : Bool) → b ≡ true → (a || b) ≡ true
     there true b e = refl
     there false b e = e
+
     next : (a b : ℕ) → a ≤ b → (b ≡ a → ⊥) → a + 1 ≤ b
     next a b le ne = elim (cases_lt a b) [ inl lt ↦ omega arith | inr ge ↦ absurd (ne (omega arith)) ]
 
@@ -92,6 +94,7 @@ range_ascends test lo (suc n) = let r = range_ascends test (lo + 1) n in grow (t
     lower : (xs : List ℕ) → IsFrom (lo + 1) xs → IsFrom lo xs
     lower [] f = tt
     lower (x ∷ xs) f = omega (arith, f)
+
     grow : (b : Bool) (xs : List ℕ) → is_ascending xs ≡ true → IsFrom (lo + 1) xs → (is_ascending (cond b (lo ∷ xs) xs) ≡ true) × IsFrom lo (cond b (lo ∷ xs) xs)
     grow true [] e f = (refl, omega arith)
     grow true (x ∷ xs) e f = (and_from _ _ (lt-ltb _ _ (omega (arith, f))) e, omega arith)

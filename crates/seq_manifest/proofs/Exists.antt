@@ -1,20 +1,19 @@
 -- A text without a fault describes a draft.
-use Rattle.std.proofs.Common.{◌≡◌, ℕ, zero, suc, ◌+◌, ◌<◌, ◌≤◌, Bool, true, false, not, ◌&&◌, cond, Option, Some, None, List, [], ◌∷◌, ◌++◌, map, length, get_or, refl, sym, ap, subst, ◌∙◌, append_assoc, arith}
+use Rattle.std.proofs.Common.{◌≡◌, ℕ, ◌+◌, ◌≤◌, Bool, true, false, Option, Some, None, List, [], ◌∷◌, ◌++◌, map, length, get_or, refl, sym, ap, ◌∙◌, append_assoc, arith}
 use Rattle.std.proofs.lemmas.Bool.{and_parts, leb-true}
 use Rattle.std.proofs.lemmas.List.{append-nil}
 use Rattle.seq_text.specs.Lines.{lines_of}
 use Rattle.seq_text.specs.Words.{words_of}
 use Rattle.seq_manifest.specs.declared.draft.Draft.{Draft}
 use Rattle.seq_manifest.specs.declared.parts.Parts.{Parts}
-use Rattle.seq_manifest.specs.declared.heading.Heading.TheVariants.{Version}
 use Rattle.seq_manifest.specs.Statements.{Statement, is_passed_over, said}
 use Rattle.seq_manifest.specs.Drafts.{said_by, parts_of, content, Describes}
-use Rattle.seq_manifest.specs.Faults.{is_within, is_allowed, rule_of, line_rule, with_line, end_rule, fault_or, fault_from, first_fault}
+use Rattle.seq_manifest.specs.Faults.{is_within, rule_of, line_rule, with_line, end_rule, fault_or, fault_from, first_fault}
 use Rattle.seq_manifest.specs.Kept.{kept}
 use Rattle.seq_manifest.specs.Taking.{with_kept, are_allowed, IsParts}
 use Rattle.seq_manifest.proofs.Lines.{IsForm-said, line_rule-said, with_line-said, with_line-passed}
-use Rattle.seq_manifest.proofs.Steps.{Steps, step}
-use Rattle.seq_manifest.proofs.Texts.{somes, words_said, content-cons, line_said, fault_from-none, fault_from-end, said_by-nothing, IsParts-nothing, IsEnded-from}
+use Rattle.seq_manifest.proofs.Steps.{step}
+use Rattle.seq_manifest.proofs.Texts.{somes, words_said, content-cons, line_said, fault_from-end, said_by-nothing, IsParts-nothing, IsEnded-from}
 use Rattle.seq_manifest.proofs.Whole.{IsDraft-from}
 
 fault_or-none : (place : ℕ) (o : Option ℕ) (later : Option (ℕ × ℕ)) → fault_or place o later ≡ None → (o ≡ None) × (later ≡ None)
@@ -63,9 +62,9 @@ through (line ∷ lines) place p parts e =
       after = t.after;
       parts = t.parts;
       said = ap (λ m. somes (said_by p) ++ m) (content-cons line lines)
-        ∙ sym (append_assoc (somes (said_by p)) (words_said (words_of line)) (map said (content lines)))
-        ∙ ap (λ ss. ss ++ map said (content lines)) (sym (line_said (said_by p) (words_of line) f.0) ∙ ap somes (sym b.said))
-        ∙ t.said;
+          ∙ sym (append_assoc (somes (said_by p)) (words_said (words_of line)) (map said (content lines)))
+          ∙ ap (λ ss. ss ++ map said (content lines)) (sym (line_said (said_by p) (words_of line) f.0) ∙ ap somes (sym b.said))
+          ∙ t.said;
       ended = t.ended;
     }
 
@@ -112,8 +111,10 @@ exists text e =
     let start : Parts = record { numbers = []; segments = []; firsts = []; processes = []; images = [] } in
     let t = through (lines_of text) 1 start IsParts-nothing (ap (λ before. fault_from 1 before (lines_of text)) said_by-nothing ∙ e) in
     let ended = IsEnded-from t.after t.parts t.ended in
-    let same = parts_of-draft_of t.after ended.seven t.parts.allowed in
-    (draft_of t.after, record {
-      lines = ap (λ before. somes before ++ map said (content (lines_of text))) (sym said_by-nothing) ∙ t.said ∙ ap (λ p. somes (said_by p)) (sym same);
-      draft = IsDraft-from t.after (draft_of t.after) t.parts t.ended same;
-    })
+    let same = parts_of-draft_of t.after ended.seven t.parts.allowed in (
+      draft_of t.after,
+      record {
+        lines = ap (λ before. somes before ++ map said (content (lines_of text))) (sym said_by-nothing) ∙ t.said ∙ ap (λ p. somes (said_by p)) (sym same);
+        draft = IsDraft-from t.after (draft_of t.after) t.parts t.ended same;
+      },
+    )

@@ -1,8 +1,7 @@
 -- A text that describes a draft has no fault.
-use Rattle.std.proofs.Common.{◌≡◌, ℕ, zero, suc, ◌+◌, ◌%◌, ◌^◌, ◌<◌, ◌≤◌, Bool, true, false, not, ◌&&◌, ◌||◌, cond, ltb, leb, eqb, ◌⊎◌, Option, Some, None, List, [], ◌∷◌, ◌++◌, map, length, inl, inr, refl, sym, ap, subst, ◌∙◌, append_assoc, arith, count_by}
-use Rattle.std.specs.List.{list_any, list_all, sum_by, zip, AllByRecursion}
-use Rattle.std.specs.Prelude.{count_ones}
-use Rattle.std.proofs.lemmas.Bool.{cases_lt, le-leb, lt-leb, lt-ltb, le-ltb, leb-true, ltb-true, eq-eqb, and_from, and_parts, or_from, both_ways, false_from_ne_true, false≢true, not-true}
+use Rattle.std.proofs.Common.{◌≡◌, ℕ, ◌+◌, ◌^◌, ◌<◌, ◌≤◌, Bool, true, false, not, ◌&&◌, ◌||◌, cond, ltb, leb, ◌⊎◌, Some, None, List, [], ◌∷◌, ◌++◌, map, length, inl, inr, refl, sym, ap, subst, ◌∙◌, append_assoc, arith, count_by}
+use Rattle.std.specs.List.{list_any, zip, AllByRecursion}
+use Rattle.std.proofs.lemmas.Bool.{cases_lt, le-leb, lt-leb, lt-ltb, le-ltb, leb-true, ltb-true, eq-eqb, and_from, and_parts, or_from, both_ways, false_from_ne_true, not-true}
 use Rattle.std.proofs.lemmas.List.{append-nil, length_push}
 use Rattle.std.proofs.lemmas.List.Elements.{recursion_from_All}
 use Rattle.std.proofs.lemmas.List.Folds.{list_any-append}
@@ -17,9 +16,9 @@ use Rattle.seq_manifest.specs.declared.draft.Draft.{Draft}
 use Rattle.seq_manifest.specs.declared.heading.Heading.{Heading}
 use Rattle.seq_manifest.specs.declared.heading.Heading.TheVariants.{Version, Processors, Memories, Ios, Cache, Quantum, Journal}
 use Rattle.seq_manifest.specs.Statements.{Statement, heading, segment, process, is_passed_over, said, is_file}
-use Rattle.seq_manifest.specs.Drafts.{headings, numbers_in, segment_of, process_of, said_by, parts_of, content, IsSegmentDraft, IsProcessDraft, IsDraft, Describes}
-use Rattle.seq_manifest.specs.Faults.{is_segment, is_process, is_in, is_owned, is_misplaced, place_of, is_within, is_allowed, is_out_of_limits, is_ascending, is_badly_listed, is_absent, line_rule, with_line, some_below, has_gap, end_rule, fault_or, fault_from, first_fault}
-use Rattle.seq_manifest.specs.Taking.{are_allowed, IsParts}
+use Rattle.seq_manifest.specs.Drafts.{headings, numbers_in, segment_of, said_by, parts_of, content, IsSegmentDraft, IsProcessDraft, IsDraft, Describes}
+use Rattle.seq_manifest.specs.Faults.{is_segment, is_process, is_in, is_owned, is_misplaced, place_of, is_within, is_allowed, is_out_of_limits, is_badly_listed, is_absent, some_below, has_gap, end_rule, fault_or, fault_from, first_fault}
+use Rattle.seq_manifest.specs.Taking.{IsParts}
 use Rattle.seq_manifest.proofs.Saying.{first_lines, segment_lines, process_lines, said_by-pieces, any-no, count-no, count-yes, length-zip_same, in-numbers_in, out-numbers_in, owned-said_by, some_process-said_by}
 use Rattle.seq_manifest.proofs.Below.{some_below-true}
 use Rattle.seq_manifest.proofs.Keeping.{any-true}
@@ -84,14 +83,25 @@ sized_from : (most n : ℕ) → IsSize most n → is_within 32 most 32 n ≡ tru
 sized_from most n b = and_from _ _ (and_from _ _ (le-leb _ _ b.between.low_at) (le-leb _ _ b.between.high_at)) (eq-eqb _ _ b.whole)
 
 pub headings_fine : (d : Draft) → IsDraft d → AllFine [] (first_lines (parts_of d).numbers)
-headings_fine d draft =
-    (heading_fine _ Version 1 refl refl,
-    (heading_fine _ Processors d.desc.processors refl (within_from 1 8 _ draft.processors),
-    (heading_fine _ Memories d.desc.memories refl (within_from 2 8 _ draft.memories),
-    (heading_fine _ Ios d.desc.ios refl (within_from 1 4 _ draft.ios),
-    (heading_fine _ Cache d.desc.cache refl (within_from 16 256 _ draft.cache),
-    (heading_fine _ Quantum d.desc.quantum refl (within_from 1 10000 _ draft.quantum),
-    (heading_fine _ Journal d.desc.journal refl (sized_from 65536 _ draft.journal), tt)))))))
+headings_fine d draft = (
+  heading_fine _ Version 1 refl refl,
+  (
+    heading_fine _ Processors d.desc.processors refl (within_from 1 8 _ draft.processors),
+    (
+      heading_fine _ Memories d.desc.memories refl (within_from 2 8 _ draft.memories),
+      (
+        heading_fine _ Ios d.desc.ios refl (within_from 1 4 _ draft.ios),
+        (
+          heading_fine _ Cache d.desc.cache refl (within_from 16 256 _ draft.cache),
+          (
+            heading_fine _ Quantum d.desc.quantum refl (within_from 1 10000 _ draft.quantum),
+            (heading_fine _ Journal d.desc.journal refl (sized_from 65536 _ draft.journal), tt),
+          ),
+        ),
+      ),
+    ),
+  ),
+)
 
 any_push : (test : Statement → Bool) (before : List Statement) (s : Statement) → list_any test (before ++ s ∷ []) ≡ (list_any test before || (test s || false))
 any_push test before s = list_any-append test before (s ∷ [])
@@ -102,13 +112,15 @@ segments_fine [] firsts before e long none room each = tt
 segments_fine (s ∷ segs) [] before e long none room each = absurd (omega arith)
 segments_fine (s ∷ segs) (f ∷ firsts) before e long none room each =
     let one = length_push before (segment s.size f) in
-    let count = sum_by_push (λ s. cond (is_segment s) 1 0) before (segment s.size f) in
-    (record {
-      placed = or_from _ _ (or_from _ _ (le-ltb _ _ long) none) (lt-leb _ _ (omega (arith, room)));
-      limited = ap not (sized_from 16384 s.size each.0.size);
-      listed = refl;
-      there = refl;
-    }, segments_fine segs firsts (before ++ segment s.size f ∷ []) (omega arith) (omega (arith, one, long)) (any_push is_process before (segment s.size f) ∙ or_from _ _ none refl) (omega (arith, count, room)) each.1)
+    let count = sum_by_push (λ s. cond (is_segment s) 1 0) before (segment s.size f) in (
+      record {
+        placed = or_from _ _ (or_from _ _ (le-ltb _ _ long) none) (lt-leb _ _ (omega (arith, room)));
+        limited = ap not (sized_from 16384 s.size each.0.size);
+        listed = refl;
+        there = refl;
+      },
+      segments_fine segs firsts (before ++ segment s.size f ∷ []) (omega arith) (omega (arith, one, long)) (any_push is_process before (segment s.size f) ∙ or_from _ _ none refl) (omega (arith, count, room)) each.1,
+    )
 
 in_mask : (mask l : ℕ) → mask < 2 ^ 16 → is_in (numbers_in mask) l ≡ has_bit mask l
 in_mask mask l small = elim (cases_lt l 16) [
@@ -134,26 +146,29 @@ processes_fine (q ∷ qs) (f ∷ images) before count e long room segments each 
     let one = length_push before s in
     let more = sum_by_push (λ s. cond (is_process s) 1 0) before s in
     let same = sum_by_push (λ s. cond (is_segment s) 1 0) before s in
-    let few : length (numbers_in q.lines) ≤ 4 = omega (arith, ones-numbers_in q.lines each.0.line_mask, each.0.few) in
-    (record {
-      placed = or_from _ _ (le-ltb _ _ long) (lt-leb _ _ (omega (arith, room)));
-      limited = refl;
-      listed = or_from _ _ (or_from _ _ (or_from _ _ (ap not (ascending-numbers_in q.lines)) (ap not (ascending-numbers_in q.grants))) (le-ltb _ _ few))
-        (false_from_ne_true _ (λ t. let w = any-true (is_owned before) (numbers_in q.lines) t in twice w.0 (sym (in_mask q.lines w.0 each.0.line_mask) ∙ w.1) w.2));
-      there = or_from _ _
-        (false_from_ne_true _ (λ t. let w = any-true (λ s. leb (count_by is_segment before) s) (numbers_in q.grants) t in
-          let lt = each.0.granted w.0 (sym (in_mask q.grants w.0 each.0.grant_mask) ∙ w.1) in
-          let le : count_by is_segment before ≤ w.0 = leb-true _ _ w.2 in
-          omega (arith, lt, le, segments)))
-        (false_from_ne_true _ (λ t. let w = any-true (λ l. leb 16 l) (numbers_in q.lines) t in
-          both_ways _ (out-numbers_in q.lines w.0 (leb-true _ _ w.2)) w.1));
-    }, processes_fine qs images (before ++ s ∷ []) count (omega arith) (omega (arith, one, long)) (omega (arith, more, room)) (same ∙ omega (arith, segments)) each.1 (λ l. next l))
+    let few : length (numbers_in q.lines) ≤ 4 = omega (arith, ones-numbers_in q.lines each.0.line_mask, each.0.few) in (
+      record {
+        placed = or_from _ _ (le-ltb _ _ long) (lt-leb _ _ (omega (arith, room)));
+        limited = refl;
+        listed = or_from _ _ (or_from _ _ (or_from _ _ (ap not (ascending-numbers_in q.lines)) (ap not (ascending-numbers_in q.grants))) (le-ltb _ _ few))
+            (false_from_ne_true _ (λ t. let w = any-true (is_owned before) (numbers_in q.lines) t in twice w.0 (sym (in_mask q.lines w.0 each.0.line_mask) ∙ w.1) w.2));
+        there = or_from _ _
+            (false_from_ne_true _ (λ t. let w = any-true (λ s. leb (count_by is_segment before) s) (numbers_in q.grants) t in
+            let lt = each.0.granted w.0 (sym (in_mask q.grants w.0 each.0.grant_mask) ∙ w.1) in
+            let le : count_by is_segment before ≤ w.0 = leb-true _ _ w.2 in
+            omega (arith, lt, le, segments)))
+            (false_from_ne_true _ (λ t. let w = any-true (λ l. leb 16 l) (numbers_in q.lines) t in
+            both_ways _ (out-numbers_in q.lines w.0 (leb-true _ _ w.2)) w.1));
+      },
+      processes_fine qs images (before ++ s ∷ []) count (omega arith) (omega (arith, one, long)) (omega (arith, more, room)) (same ∙ omega (arith, segments)) each.1 (λ l. next l),
+    )
   where
     twice : (l : ℕ) → has_bit q.lines l ≡ true → is_owned before l ≡ true → ⊥
     twice l bit owned =
         let both = apart l in
         let count = sum_by-cons (λ q. cond (has_bit q.lines l) 1 0) q qs in
         omega (arith, both, count, ap (λ b. cond {A = ℕ} b 1 0) bit, ap (λ b. cond {A = ℕ} b 1 0) owned)
+
     next : (l : ℕ) → cond (is_owned (before ++ process f (numbers_in q.lines) (numbers_in q.grants) ∷ []) l) 1 0 + owners qs l ≤ 1
     next l =
         let both = apart l in
@@ -196,10 +211,10 @@ all_fine d draft =
     let s = segment_lines d.desc.segments d.firsts in
     let hs = AllFine-append [] h s (headings_fine d draft) (segments_fine d.desc.segments d.firsts h draft.firsts (omega arith) refl (omega (arith, draft.segments)) parts.each_segment) in
     let ps = processes_fine d.desc.processes d.images (h ++ s) (length d.desc.segments) draft.images (omega arith)
-      (omega (arith, count-no is_process segment_of (λ x. refl) (zip d.desc.segments d.firsts), draft.processes.high_at))
-      (count-yes is_segment segment_of (λ x. refl) (zip d.desc.segments d.firsts) ∙ length-zip_same d.desc.segments d.firsts draft.firsts)
-      parts.each_process
-      (λ l. omega (arith, ap (λ b. cond {A = ℕ} b 1 0) (unowned_before (parts_of d).numbers d.desc.segments d.firsts l), parts.apart l)) in
+    (omega (arith, count-no is_process segment_of (λ x. refl) (zip d.desc.segments d.firsts), draft.processes.high_at))
+    (count-yes is_segment segment_of (λ x. refl) (zip d.desc.segments d.firsts) ∙ length-zip_same d.desc.segments d.firsts draft.firsts)
+    parts.each_process
+    (λ l. omega (arith, ap (λ b. cond {A = ℕ} b 1 0) (unowned_before (parts_of d).numbers d.desc.segments d.firsts l), parts.apart l)) in
     subst (AllFine []) (sym (said_by-pieces (parts_of d))) (AllFine-append [] (h ++ s) (process_lines d.desc.processes d.images) hs ps)
 
 -- ---- and the text doesn't end too early

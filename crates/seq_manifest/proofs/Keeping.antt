@@ -1,9 +1,9 @@
 -- What is kept of a statement violates the rules that the statement violates.
-use Rattle.std.proofs.Common.{◌≡◌, ℕ, zero, suc, ◌+◌, ◌*◌, ◌/◌, ◌%◌, ◌^◌, ◌<◌, ◌≤◌, min, max, Bool, true, false, not, ◌&&◌, ◌||◌, cond, ltb, leb, eqb, Option, Some, None, List, [], ◌∷◌, ◌++◌, length, inl, inr, refl, sym, ap, subst, ◌∙◌, arith, count_by}
+use Rattle.std.proofs.Common.{◌≡◌, ℕ, ◌+◌, ◌%◌, ◌^◌, ◌<◌, ◌≤◌, max, Bool, true, false, not, ◌&&◌, ◌||◌, cond, ltb, leb, eqb, Option, Some, None, List, [], ◌∷◌, length, inl, inr, refl, sym, ap, subst, ◌∙◌, arith, count_by}
 use Rattle.std.specs.List.{list_any, fold}
 use Rattle.std.specs.Int.{bit_at}
 use Rattle.std.specs.Prelude.{bit_or}
-use Rattle.std.proofs.lemmas.Bool.{cases_lt, cases_eq, lt-ltb, le-ltb, ltb-true, ltb-false, leb-true, le-leb, lt-leb, eq-eqb, ne_eqb, eqb-true, or_cases, or_left, or_right, and_parts, and_from, false≢true}
+use Rattle.std.proofs.lemmas.Bool.{cases_lt, cases_eq, lt-ltb, le-ltb, ltb-true, leb-true, le-leb, lt-leb, eq-eqb, ne_eqb, eqb-true, or_cases, or_left, or_right, and_parts, and_from, false≢true}
 use Rattle.std.proofs.lemmas.Nat.{or_of_16, pow_below, pow_pos}
 use Rattle.std.proofs.lemmas.Nat.Bits.{bit_at_or, bit_at-pow_same, bit_at-pow_other, bit_at-lt, bit_at_above}
 use Rattle.seq_words.specs.Masks.{has_bit}
@@ -13,8 +13,8 @@ use Rattle.seq_manifest.specs.declared.heading.Heading.{Heading}
 use Rattle.seq_manifest.specs.declared.heading.Heading.TheVariants.{Version, Processors, Memories, Ios, Cache, Quantum, Journal}
 use Rattle.seq_manifest.specs.Statements.{Statement, heading, segment, process}
 use Rattle.seq_manifest.specs.Drafts.{said_by}
-use Rattle.seq_manifest.specs.Faults.{is_segment, is_process, is_in, is_owned, is_misplaced, is_within, is_allowed, is_out_of_limits, is_ascending, is_badly_listed, is_absent, rule_of, some_below}
-use Rattle.seq_manifest.specs.Kept.{with_bit, mask_of, above, end_of, kept_list, Kept, kept_heading, kept_segment, kept_process, kept}
+use Rattle.seq_manifest.specs.Faults.{is_segment, is_in, is_owned, is_misplaced, is_within, is_allowed, is_out_of_limits, is_ascending, is_badly_listed, is_absent, rule_of, some_below}
+use Rattle.seq_manifest.specs.Kept.{with_bit, mask_of, above, end_of, kept}
 use Rattle.seq_manifest.specs.Taking.{kept_misplaced, kept_out, kept_badly, kept_absent, kept_rule, IsParts}
 use Rattle.seq_manifest.proofs.Sequences.{capped-small, capped-large}
 use Rattle.seq_manifest.proofs.Saying.{unowned-said_by, segments-said_by}
@@ -32,6 +32,7 @@ within-capped least most unit n small = elim (cases_lt n (10 ^ 18)) [
     gone true false u v = refl
     gone false true u v = refl
     gone false false u v = refl
+
     outside : capped n ≡ 10 ^ 18 → 10 ^ 18 ≤ n → is_within least most unit (capped n) ≡ is_within least most unit n
     outside e le =
         let a : leb (capped n) most ≡ false = lt-leb _ _ (omega arith) in
@@ -51,15 +52,15 @@ allowed-capped Journal n = within-capped 32 65536 32 n (omega arith)
 has_bit-or : (m n l : ℕ) → has_bit (bit_or m (2 ^ n)) l ≡ (has_bit m l || eqb n l)
 has_bit-or m n l = elim (cases_eq n l) [
   | inl e ↦
-    let one : bit_at (2 ^ n) l ≡ 1 = subst (λ k. bit_at (2 ^ n) k ≡ 1) e (bit_at-pow_same n) in
-    let lt = bit_at-lt m l in
-    let set : bit_at (bit_or m (2 ^ n)) l ≡ 1 = bit_at_or m (2 ^ n) l ∙ omega arith in
-    eq-eqb _ _ set ∙ sym (or_right _ _ (eq-eqb _ _ e))
+      let one : bit_at (2 ^ n) l ≡ 1 = subst (λ k. bit_at (2 ^ n) k ≡ 1) e (bit_at-pow_same n) in
+      let lt = bit_at-lt m l in
+      let set : bit_at (bit_or m (2 ^ n)) l ≡ 1 = bit_at_or m (2 ^ n) l ∙ omega arith in
+      eq-eqb _ _ set ∙ sym (or_right _ _ (eq-eqb _ _ e))
   | inr ne ↦
-    let none : bit_at (2 ^ n) l ≡ 0 = bit_at-pow_other n l (λ e. ne (sym e)) in
-    let same : bit_at (bit_or m (2 ^ n)) l ≡ bit_at m l = bit_at_or m (2 ^ n) l ∙ omega arith in
-    let off : eqb n l ≡ false = ne_eqb _ _ ne in
-    rw off (ap (λ b. eqb b 1) same ∙ sym (or_off (has_bit m l)))
+      let none : bit_at (2 ^ n) l ≡ 0 = bit_at-pow_other n l (λ e. ne (sym e)) in
+      let same : bit_at (bit_or m (2 ^ n)) l ≡ bit_at m l = bit_at_or m (2 ^ n) l ∙ omega arith in
+      let off : eqb n l ≡ false = ne_eqb _ _ ne in
+      rw off (ap (λ b. eqb b 1) same ∙ sym (or_off (has_bit m l)))
 ]
   where
     or_off : (b : Bool) → (b || false) ≡ b
@@ -130,10 +131,10 @@ any-from test (n ∷ ns) k i e = elim (or_cases _ _ i) [
 
 overlap : (mask : ℕ) (ns : List ℕ) (owned : ℕ → Bool) → ((l : ℕ) → l < 16 → has_bit mask l ≡ is_in ns l) → ((l : ℕ) → 16 ≤ l → owned l ≡ false) → some_below 16 (λ l. has_bit mask l && owned l) ≡ list_any owned ns
 overlap mask ns owned bits none = same_bool _ _
-  (λ e. let w = some_below-true 16 (λ l. has_bit mask l && owned l) e in
+    (λ e. let w = some_below-true 16 (λ l. has_bit mask l && owned l) e in
     let p = and_parts _ _ w.2 in
     any-from owned ns w.0 (sym (bits w.0 w.1) ∙ p.0) p.1)
-  (λ e. let w = any-true owned ns e in
+    (λ e. let w = any-true owned ns e in
     let lt : w.0 < 16 = below w.0 (λ le. absurd (false≢true (sym (none w.0 le) ∙ w.2))) in
     some_below-from 16 w.0 (λ l. has_bit mask l && owned l) lt (and_from _ _ (bits w.0 lt ∙ w.1) w.2))
   where
@@ -143,8 +144,8 @@ overlap mask ns owned bits none = same_bool _ _
 -- ---- the greatest number
 ltb-max : (m e k : ℕ) → ltb m (max e k) ≡ (ltb m e || ltb m k)
 ltb-max m e k = same_bool _ _
-  (λ t. let lt : m < max e k = ltb-true _ _ t in elim (cases_lt m e) [ inl le ↦ or_left (ltb m e) (ltb m k) (lt-ltb _ _ le) | inr ge ↦ let above : m < k = omega arith in or_right (ltb m e) (ltb m k) (lt-ltb _ _ above) ])
-  (λ t. elim (or_cases (ltb m e) (ltb m k) t) [ inl a ↦ let lt : m < e = ltb-true _ _ a in lt-ltb m (max e k) (omega arith) | inr b ↦ let lt : m < k = ltb-true _ _ b in lt-ltb m (max e k) (omega arith) ])
+    (λ t. let lt : m < max e k = ltb-true _ _ t in elim (cases_lt m e) [ inl le ↦ or_left (ltb m e) (ltb m k) (lt-ltb _ _ le) | inr ge ↦ let above : m < k = omega arith in or_right (ltb m e) (ltb m k) (lt-ltb _ _ above) ])
+    (λ t. elim (or_cases (ltb m e) (ltb m k) t) [ inl a ↦ let lt : m < e = ltb-true _ _ a in lt-ltb m (max e k) (omega arith) | inr b ↦ let lt : m < k = ltb-true _ _ b in lt-ltb m (max e k) (omega arith) ])
 
 ltb-capped : (m n : ℕ) → m < 10 ^ 18 → ltb m (capped n + 1) ≡ leb m n
 ltb-capped m n small = elim (cases_lt n (10 ^ 18)) [

@@ -1,8 +1,8 @@
 -- Lines that have one owner each and leave no gap are numbered from 0 on.
-use Rattle.std.proofs.Common.{◌≡◌, ◌⊎◌, ℕ, zero, suc, ◌+◌, ◌-◌, ◌^◌, ◌<◌, ◌≤◌, min, Bool, true, false, not, ◌&&◌, ◌||◌, cond, ltb, eqb, List, [], ◌∷◌, length, inl, inr, refl, sym, ap, subst, ◌∙◌, arith, count_by}
+use Rattle.std.proofs.Common.{◌≡◌, ◌⊎◌, ℕ, zero, suc, ◌+◌, ◌-◌, ◌<◌, ◌≤◌, min, Bool, true, false, cond, ltb, List, [], ◌∷◌, length, inl, inr, refl, sym, ap, ◌∙◌, arith, count_by}
 use Rattle.std.specs.List.{list_any, filter, range_with_len, sum_by, AllByRecursion}
 use Rattle.std.specs.Prelude.{count_ones}
-use Rattle.std.proofs.lemmas.Bool.{cases_lt, cases_Bool, lt-ltb, le-ltb, ltb-true, ltb-false, both_ways, or_cases, false≢true}
+use Rattle.std.proofs.lemmas.Bool.{cases_lt, lt-ltb, le-ltb, or_cases, false≢true}
 use Rattle.std.proofs.lemmas.List.Sums.{sum_by-cons}
 use Rattle.seq_words.specs.Masks.{has_bit}
 use Rattle.seq_words.specs.declared.description.ProcessDesc.{ProcessDesc}
@@ -106,6 +106,7 @@ numbered segments qs h apart down l =
   where
     least : (m : ℕ) → m ≤ 16 → min (m - 0) 16 ≡ m
     least m le = omega arith
+
     at : (l m : ℕ) → m ≤ 16 → ((l : ℕ) → l < 16 → owners qs l ≡ cond (ltb l m) 1 0) → (l < 16) ⊎ (16 ≤ l) → owners qs l ≡ cond (ltb l m) 1 0
     at l m le each (inl lt) = each l lt
     at l m le each (inr ge) = let f : ltb l m ≡ false = le-ltb _ _ (omega arith) in no_owner_above segments qs l h ge ∙ rw f refl

@@ -1,11 +1,11 @@
 -- How many bits a mask has.
-use Rattle.std.proofs.Common.{◌≡◌, ℕ, zero, suc, ◌+◌, ◌-◌, ◌*◌, ◌/◌, ◌%◌, ◌^◌, ◌<◌, ◌≤◌, Bool, true, false, cond, eqb, List, [], ◌∷◌, length, inl, inr, refl, sym, ap, subst, ◌∙◌, arith}
+use Rattle.std.proofs.Common.{◌≡◌, ℕ, zero, suc, ◌+◌, ◌*◌, ◌/◌, ◌%◌, ◌^◌, ◌<◌, ◌≤◌, Bool, true, false, cond, eqb, List, ◌∷◌, length, inl, inr, refl, sym, ap, subst, ◌∙◌, arith}
 use Rattle.std.specs.Prelude.{count_ones}
 use Rattle.std.specs.List.{filter, range_with_len}
-use Rattle.std.proofs.lemmas.Bool.{cases_eq, eq-eqb, ne_eqb}
+use Rattle.std.proofs.lemmas.Bool.{cases_eq}
 use Rattle.std.proofs.lemmas.Nat.{ones_cat, zero_from_ones, ones_le_self, shr-shr, shr_below, div-add-mod'}
 use Rattle.std.proofs.lemmas.Nat.Bits.{bit_at-lt}
-use Rattle.std.proofs.Math.Nat.{div-one, pow-suc}
+use Rattle.std.proofs.Math.Nat.{div-one}
 use Rattle.seq_words.specs.Masks.{has_bit}
 use Rattle.seq_manifest.specs.Drafts.{numbers_in}
 
@@ -33,6 +33,7 @@ ones-bit m lo =
     lowest zero lt = ones-zero
     lowest (suc zero) lt = ones-one
     lowest (suc (suc b)) lt = absurd (omega arith)
+
     both : (a b c d : ℕ) → a ≡ c → b ≡ d → a + b ≡ c + d
     both a b c d e f = cc
 

@@ -1,19 +1,18 @@
 -- What the statements that made some parts are.
-use Rattle.std.proofs.Common.{◌≡◌, ℕ, zero, suc, ◌+◌, ◌^◌, ◌<◌, ◌≤◌, min, Bool, true, false, not, ◌&&◌, ◌||◌, cond, ltb, leb, eqb, Option, Some, None, List, [], ◌∷◌, ◌++◌, map, length, inl, inr, refl, sym, ap, subst, ◌∙◌, append_assoc, arith, count_by, zero-add}
-use Rattle.std.specs.List.{list_any, filter, zip, range_with_len, sum_by, AllByRecursion}
-use Rattle.std.proofs.lemmas.Bool.{cases_lt, cases_eq, cases_Bool, lt-ltb, le-ltb, eq-eqb, ne_eqb, eqb-true, or_cases, true≢false, false≢true}
+use Rattle.std.proofs.Common.{◌≡◌, ℕ, zero, suc, ◌+◌, ◌<◌, ◌≤◌, Bool, true, false, ◌&&◌, ◌||◌, cond, ltb, eqb, List, [], ◌∷◌, ◌++◌, map, length, inl, inr, refl, sym, ap, ◌∙◌, arith, count_by, zero-add}
+use Rattle.std.specs.List.{list_any, filter, zip, range_with_len}
+use Rattle.std.proofs.lemmas.Bool.{cases_lt, cases_eq, lt-ltb, eq-eqb, ne_eqb}
 use Rattle.std.proofs.lemmas.List.{length-append, length-map}
 use Rattle.std.proofs.lemmas.List.Folds.{list_any-append}
 use Rattle.std.proofs.lemmas.List.Sums.{sum_by-append, sum_by-cons}
 use Rattle.std.proofs.lemmas.Slice.Zip.{length-zip}
-use Rattle.std.proofs.lemmas.Nat.Bits.{bit_at_above}
 use Rattle.std.proofs.Math.Nat.{min-eq_left, min-eq_right}
 use Rattle.seq_words.specs.Masks.{has_bit}
 use Rattle.seq_words.specs.declared.description.SegmentDesc.{SegmentDesc}
 use Rattle.seq_words.specs.declared.description.ProcessDesc.{ProcessDesc}
 use Rattle.seq_manifest.specs.declared.parts.Parts.{Parts}
 use Rattle.seq_manifest.specs.declared.heading.Heading.{Heading}
-use Rattle.seq_manifest.specs.Statements.{Statement, heading, segment, process}
+use Rattle.seq_manifest.specs.Statements.{Statement, heading, segment}
 use Rattle.seq_manifest.specs.Drafts.{headings, numbers_in, segment_of, process_of, said_by}
 use Rattle.seq_manifest.specs.Faults.{is_segment, is_process, is_in, owns, is_owned}
 use Rattle.seq_manifest.specs.Taking.{IsParts}
@@ -132,8 +131,10 @@ in_range test lo (suc n) l le lt = cond_in (test lo) lo l (filter test (range_wi
     here : (b : Bool) → eqb lo l ≡ true → is_in (filter test (range_with_len (lo + 1) n)) l ≡ false → ((b && eqb lo l) || is_in (filter test (range_with_len (lo + 1) n)) l) ≡ b
     here true e f = rw e refl
     here false e f = f
+
     there : (b : Bool) → eqb lo l ≡ false → is_in (filter test (range_with_len (lo + 1) n)) l ≡ test l → ((b && eqb lo l) || is_in (filter test (range_with_len (lo + 1) n)) l) ≡ test l
     there b ne f = rw (ne, and_false b) f
+
     above : (a b : ℕ) → a ≤ b → (a ≡ b → ⊥) → a + 1 ≤ b
     above a b le ne = elim (cases_lt a b) [ inl lt ↦ omega arith | inr ge ↦ absurd (ne (omega arith)) ]
 

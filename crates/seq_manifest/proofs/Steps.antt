@@ -1,14 +1,13 @@
 -- One statement that violates no rule, on parts that stand.
-use Rattle.std.proofs.Common.{◌≡◌, ℕ, zero, suc, ◌+◌, ◌*◌, ◌/◌, ◌%◌, ◌^◌, ◌<◌, ◌≤◌, Bool, true, false, not, ◌&&◌, ◌||◌, cond, ltb, leb, eqb, ◌⊎◌, Option, Some, None, List, [], ◌∷◌, ◌++◌, map, drop, length, inl, inr, refl, sym, ap, subst, ◌∙◌, append_assoc, arith, count_by}
-use Rattle.std.specs.List.{list_any, list_all, filter, zip, range_with_len, sum_by, AllByRecursion}
-use Rattle.std.specs.Prelude.{count_ones}
-use Rattle.std.proofs.lemmas.Bool.{cases_lt, cases_eq, cases_Bool, ltb-true, ltb-false, leb-true, leb-false, lt-ltb, le-leb, eqb-true, eq-eqb, ne_eqb, not-false, not-true, or_parts, or_cases, and_parts, and_from, false≢true, both_ways}
+use Rattle.std.proofs.Common.{◌≡◌, ℕ, zero, suc, ◌+◌, ◌^◌, ◌<◌, ◌≤◌, Bool, true, false, cond, leb, ◌⊎◌, Option, Some, None, List, [], ◌∷◌, ◌++◌, map, drop, length, inl, inr, refl, sym, ap, subst, ◌∙◌, append_assoc, arith, count_by}
+use Rattle.std.specs.List.{list_any, list_all, zip, AllByRecursion}
+use Rattle.std.proofs.lemmas.Bool.{cases_lt, ltb-false, leb-true, leb-false, lt-ltb, le-leb, eqb-true, ne_eqb, not-false, or_parts, and_parts, and_from, false≢true, both_ways}
 use Rattle.std.proofs.lemmas.List.{append-nil, map_push, length_push, nil_from_length}
 use Rattle.std.proofs.lemmas.List.Folds.{list_all-append}
 use Rattle.std.proofs.lemmas.List.Sums.{sum_by_push, sum_by-cons}
 use Rattle.std.proofs.lemmas.Nat.Bits.{bit_at_above}
 use Rattle.seq_words.specs.Masks.{has_bit}
-use Rattle.seq_words.specs.Description.{IsSize, IsBetween}
+use Rattle.seq_words.specs.Description.{IsSize}
 use Rattle.seq_words.specs.declared.description.SegmentDesc.{SegmentDesc}
 use Rattle.seq_words.specs.declared.description.ProcessDesc.{ProcessDesc}
 use Rattle.seq_text.specs.Numbers.{capped}
@@ -17,9 +16,9 @@ use Rattle.seq_manifest.specs.declared.heading.Heading.{Heading}
 use Rattle.seq_manifest.specs.declared.heading.Heading.TheVariants.{Version, Processors, Memories, Ios, Cache, Quantum, Journal}
 use Rattle.seq_manifest.specs.Statements.{Statement, heading, segment, process, is_file}
 use Rattle.seq_manifest.specs.Drafts.{headings, numbers_in, segment_of, process_of, said_by, IsSegmentDraft, IsProcessDraft}
-use Rattle.seq_manifest.specs.Faults.{is_segment, is_process, is_in, is_owned, is_misplaced, place_of, is_within, is_allowed, is_out_of_limits, is_ascending, is_badly_listed, is_absent, rule_of}
-use Rattle.seq_manifest.specs.Kept.{mask_of, kept_list, kept}
-use Rattle.seq_manifest.specs.Taking.{with_kept, are_allowed, IsParts}
+use Rattle.seq_manifest.specs.Faults.{is_segment, is_in, is_owned, is_misplaced, place_of, is_within, is_allowed, is_out_of_limits, is_ascending, is_badly_listed, is_absent, rule_of}
+use Rattle.seq_manifest.specs.Kept.{mask_of, kept}
+use Rattle.seq_manifest.specs.Taking.{with_kept, IsParts}
 use Rattle.seq_manifest.proofs.Sequences.{capped-small}
 use Rattle.seq_manifest.proofs.Saying.{first_lines, segment_lines, process_lines, said_by-pieces, length-said_by, segments-said_by, processes-said_by, some_process-said_by, owned-said_by}
 use Rattle.seq_manifest.proofs.Keeping.{has_bit-mask_of, mask_of-small, any-from}
@@ -145,9 +144,9 @@ heading_step p h n parts fine =
         apart = parts.apart;
       };
       said = said_by-pieces (with_kept p (kept (heading h n)))
-        ∙ ap (λ z. z ++ segment_lines p.segments p.firsts ++ process_lines p.processes p.images) lines
-        ∙ middle (first_lines p.numbers) (segment_lines p.segments p.firsts) (process_lines p.processes p.images) (heading h n) (ap (λ ss. segment_lines ss p.firsts) no_segments) (ap (λ ps. process_lines ps p.images) no_processes)
-        ∙ ap (λ z. z ++ heading h n ∷ []) (sym (said_by-pieces p));
+          ∙ ap (λ z. z ++ segment_lines p.segments p.firsts ++ process_lines p.processes p.images) lines
+          ∙ middle (first_lines p.numbers) (segment_lines p.segments p.firsts) (process_lines p.processes p.images) (heading h n) (ap (λ ss. segment_lines ss p.firsts) no_segments) (ap (λ ps. process_lines ps p.images) no_processes)
+          ∙ ap (λ z. z ++ heading h n ∷ []) (sym (said_by-pieces p));
     }
   where
     nothing : (n : ℕ) → (0 < n → ⊥) → n ≡ 0
@@ -196,17 +195,19 @@ segment_step p size file parts form fine =
         apart = parts.apart;
       };
       said = said_by-pieces (with_kept p (kept (segment size file)))
-        ∙ ap (λ z. first_lines p.numbers ++ z ++ process_lines p.processes p.images) lines
-        ∙ last (first_lines p.numbers) (segment_lines p.segments p.firsts) (process_lines p.processes p.images) (segment size file) (ap (λ ps. process_lines ps p.images) none)
-        ∙ ap (λ z. z ++ segment size file ∷ []) (sym (said_by-pieces p));
+          ∙ ap (λ z. first_lines p.numbers ++ z ++ process_lines p.processes p.images) lines
+          ∙ last (first_lines p.numbers) (segment_lines p.segments p.firsts) (process_lines p.processes p.images) (segment size file) (ap (λ ps. process_lines ps p.images) none)
+          ∙ ap (λ z. z ++ segment size file ∷ []) (sym (said_by-pieces p));
     }
   where
     nothing : (n : ℕ) → (0 < n → ⊥) → n ≡ 0
     nothing zero f = refl
     nothing (suc n) f = absurd (f (omega arith))
+
     full : (n s q : ℕ) → n ≤ 7 → (0 < s + q → n ≡ 7) → q ≡ 0 → 7 ≤ n + s → n ≡ 7
     full n zero q le f e h = omega arith
     full n (suc s) q le f e h = f (omega arith)
+
     last : (a b c : List Statement) (x : Statement) → c ≡ [] → a ++ (b ++ x ∷ []) ++ c ≡ (a ++ b ++ c) ++ x ∷ []
     last a b c x e = rw e (append-nil _ ∙ sym (append_assoc a b (x ∷ [])) ∙ sym (ap (λ z. z ++ x ∷ []) (append-nil _)))
 
@@ -272,16 +273,18 @@ process_step p file lines segments parts form fine =
         apart = λ l. omega (arith, sum_by_push (λ q. cond (has_bit q.lines l) 1 0) p.processes made, once l (has_bit (mask_of lines) l) refl l1.1);
       };
       said = said_by-pieces (with_kept p (kept (process file lines segments)))
-        ∙ ap (λ z. first_lines p.numbers ++ segment_lines p.segments p.firsts ++ z) said_lines
-        ∙ sym (append_assoc (first_lines p.numbers ++ segment_lines p.segments p.firsts) (process_lines p.processes p.images) (process file lines segments ∷ []))
-        ∙ ap (λ z. z ++ process file lines segments ∷ []) (sym (said_by-pieces p));
+          ∙ ap (λ z. first_lines p.numbers ++ segment_lines p.segments p.firsts ++ z) said_lines
+          ∙ sym (append_assoc (first_lines p.numbers ++ segment_lines p.segments p.firsts) (process_lines p.processes p.images) (process file lines segments ∷ []))
+          ∙ ap (λ z. z ++ process file lines segments ∷ []) (sym (said_by-pieces p));
     }
   where
     below : (k n : ℕ) → (n ≤ k → ⊥) → k < n
     below k n h = elim (cases_lt k n) [ inl lt ↦ lt | inr le ↦ absurd (h le) ]
+
     granted : (s : ℕ) → has_bit (mask_of segments) s ≡ true → (s < 16) ⊎ (16 ≤ s) → ((k : ℕ) → is_in segments k ≡ true → k < length p.segments) → s < length p.segments
     granted s bit (inl lt) there = there s (sym (has_bit-mask_of segments s lt) ∙ bit)
     granted s bit (inr le) there = absurd (both_ways _ (no_bit_above (mask_of segments) s (mask_of-small segments) le) bit)
+
     unowned : (l : ℕ) → has_bit (mask_of lines) l ≡ true → list_any (is_owned (said_by p)) lines ≡ false → (s : (l < 16) ⊎ (16 ≤ l)) → list_any (λ q. has_bit q.lines l) p.processes ≡ false
     unowned l bit none (inl lt) = false_else _ (λ owned. both_ways _ none (any-from (is_owned (said_by p)) lines l (sym (has_bit-mask_of lines l lt) ∙ bit) (sym (owned-said_by p l parts lt) ∙ owned)))
       where
@@ -289,6 +292,7 @@ process_step p file lines segments parts form fine =
         false_else true h = absurd (h refl)
         false_else false h = refl
     unowned l bit none (inr le) = absurd (both_ways _ (no_bit_above (mask_of lines) l (mask_of-small lines) le) bit)
+
     once : (l : ℕ) (b : Bool) → has_bit (mask_of lines) l ≡ b → list_any (is_owned (said_by p)) lines ≡ false → count_by (λ q. has_bit q.lines l) p.processes + cond b 1 0 ≤ 1
     once l true e none = omega (arith, count_zero (λ q. has_bit q.lines l) p.processes (unowned l e none (cases_lt l 16)))
     once l false e none = omega (arith, parts.apart l)

@@ -1,10 +1,10 @@
 -- What taking what was kept of a line does.
-use Rattle.std.proofs.Common.{◌≡◌, ℕ, Bool, false, Option, Some, None, List, [], ◌∷◌, ◌++◌, sym, ap, subst, ◌∙◌}
+use Rattle.std.proofs.Common.{◌≡◌, ℕ, false, Some, None, List, sym, ap, subst, ◌∙◌}
 use Rattle.std.specs.Option.{option_map}
 use Rattle.seq_manifest.specs.declared.parts.Parts.{Parts}
 use Rattle.seq_manifest.specs.Statements.{Statement, is_passed_over, said}
 use Rattle.seq_manifest.specs.Drafts.{said_by}
-use Rattle.seq_manifest.specs.Faults.{rule_of, line_rule, with_line}
+use Rattle.seq_manifest.specs.Faults.{line_rule, with_line}
 use Rattle.seq_manifest.specs.Kept.{Kept, kept}
 use Rattle.seq_manifest.specs.Taking.{IsParts, kept_rule, with_kept}
 use Rattle.seq_manifest.proofs.Lines.{IsForm-said, kept_some, line_rule-said, with_line-said}

@@ -1,7 +1,7 @@
 -- A text, line by line.
-use Rattle.std.proofs.Common.{◌≡◌, ℕ, zero, suc, ◌+◌, ◌<◌, ◌≤◌, Bool, true, false, not, ◌||◌, cond, ltb, eqb, Option, Some, None, List, [], ◌∷◌, ◌++◌, map, length, inl, inr, refl, sym, ap, subst, ◌∙◌, append_assoc, arith}
-use Rattle.std.specs.List.{filter, list_any}
-use Rattle.std.proofs.lemmas.Bool.{cases_Bool, not-false, ltb-true}
+use Rattle.std.proofs.Common.{◌≡◌, ℕ, ◌+◌, ◌<◌, ◌≤◌, Bool, true, false, not, cond, Option, Some, None, List, [], ◌∷◌, ◌++◌, map, length, refl, sym, ap, subst, ◌∙◌, append_assoc, arith}
+use Rattle.std.specs.List.{list_any}
+use Rattle.std.proofs.lemmas.Bool.{not-false, ltb-true}
 use Rattle.std.proofs.lemmas.List.{map-append, append-nil, nil_from_length}
 use Rattle.seq_text.specs.Lines.{lines_of}
 use Rattle.seq_text.specs.Words.{words_of}
@@ -99,8 +99,8 @@ reading_goes text line rest after p q place r cut shorter none said_q parts = re
   parts = parts;
   fault = ap (λ before. fault_from (place + 1) before (lines_of after)) said_q ∙ sym (fault_from-none place (said_by p) line (lines_of after) none) ∙ ap (fault_from place (said_by p)) (sym cut) ∙ r.fault;
   said = r.said ∙ ap (λ ls. somes (said_by p) ++ map said (content ls)) cut ∙ ap (λ m. somes (said_by p) ++ m) (content-cons line (lines_of after))
-    ∙ sym (append_assoc (somes (said_by p)) (words_said (words_of line)) (map said (content (lines_of after))))
-    ∙ ap (λ ss. ss ++ map said (content (lines_of after))) (sym (line_said (said_by p) (words_of line) none) ∙ ap somes (sym said_q));
+      ∙ sym (append_assoc (somes (said_by p)) (words_said (words_of line)) (map said (content (lines_of after))))
+      ∙ ap (λ ss. ss ++ map said (content (lines_of after))) (sym (line_said (said_by p) (words_of line) none) ∙ ap somes (sym said_q));
   room = omega (arith, r.room, shorter);
 }
 

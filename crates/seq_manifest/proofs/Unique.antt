@@ -1,8 +1,7 @@
 -- A text describes one draft at most.
-use Rattle.std.proofs.Common.{◌≡◌, ℕ, zero, suc, ◌+◌, ◌/◌, ◌%◌, ◌^◌, ◌<◌, ◌≤◌, Bool, true, false, eqb, Option, Some, None, List, [], ◌∷◌, ◌++◌, map, length, refl, sym, ap, subst, ◌∙◌, arith}
+use Rattle.std.proofs.Common.{◌≡◌, ℕ, zero, suc, ◌^◌, ◌<◌, eqb, Option, Some, None, List, [], ◌∷◌, ◌++◌, map, length, refl, sym, ap, subst, ◌∙◌, arith}
 use Rattle.std.specs.Int.{bit_at}
-use Rattle.std.specs.List.{zip, filter_map, cons_option, AllByRecursion}
-use Rattle.std.proofs.lemmas.Bool.{eq-eqb, eqb-true, eqb-false, both_ways}
+use Rattle.std.specs.List.{zip, filter_map, AllByRecursion}
 use Rattle.std.proofs.lemmas.List.{append-nil}
 use Rattle.std.proofs.lemmas.List.Elements.{filter_map-append, recursion_from_All}
 use Rattle.std.proofs.lemmas.Nat.Bits.{bit_at-lt, same_from_bits_below}
@@ -13,7 +12,7 @@ use Rattle.seq_words.specs.declared.description.ProcessDesc.{ProcessDesc}
 use Rattle.seq_manifest.specs.declared.draft.Draft.{Draft}
 use Rattle.seq_manifest.specs.declared.parts.Parts.{Parts}
 use Rattle.seq_manifest.specs.Statements.{Statement, heading, segment, process}
-use Rattle.seq_manifest.specs.Drafts.{headings, numbers_in, segment_of, process_of, said_by, parts_of, IsSegmentDraft, IsProcessDraft, IsDraft, Describes}
+use Rattle.seq_manifest.specs.Drafts.{headings, numbers_in, segment_of, process_of, said_by, parts_of, IsSegmentDraft, IsProcessDraft, Describes}
 use Rattle.seq_manifest.specs.Faults.{is_in}
 use Rattle.seq_manifest.proofs.Saying.{first_lines, segment_lines, process_lines, said_by-pieces, in-numbers_in}
 use Rattle.seq_manifest.proofs.Texts.{somes}
@@ -143,6 +142,7 @@ segments_same (s ∷ ss) (t ∷ ts) (f ∷ fs) (g ∷ gs) ls lt hs ht e =
   where
     both : (s t : SegmentDesc) (ss ts : List SegmentDesc) → s ≡ t → ss ≡ ts → s ∷ ss ≡ t ∷ ts
     both s t ss ts e f = cc
+
     names : (f g : List ℕ) (fs gs : List (List ℕ)) → f ≡ g → fs ≡ gs → f ∷ fs ≡ g ∷ gs
     names f g fs gs d e = cc
 
@@ -165,6 +165,7 @@ processes_same n (p ∷ ps) (q ∷ qs) (f ∷ fs) (g ∷ gs) lp lq hp hq e =
   where
     both : (p q : ProcessDesc) (ps qs : List ProcessDesc) → p ≡ q → ps ≡ qs → p ∷ ps ≡ q ∷ qs
     both p q ps qs e f = cc
+
     names : (f g : List ℕ) (fs gs : List (List ℕ)) → f ≡ g → fs ≡ gs → f ∷ fs ≡ g ∷ gs
     names f g fs gs d e = cc
 
@@ -185,7 +186,7 @@ all_same d e h s f p i =
     fields d.desc.processors e.desc.processors d.desc.memories e.desc.memories d.desc.ios e.desc.ios d.desc.cache e.desc.cache d.desc.quantum e.desc.quantum d.desc.journal e.desc.journal d.desc.segments e.desc.segments d.desc.processes e.desc.processes d.images e.images d.firsts e.firsts h.processors h.memories h.ios h.cache h.quantum h.journal s p i f
   where
     fields : (a a' b b' c c' k k' q q' j j' : ℕ) (s s' : List SegmentDesc) (p p' : List ProcessDesc) (i i' f f' : List (List ℕ)) → a ≡ a' → b ≡ b' → c ≡ c' → k ≡ k' → q ≡ q' → j ≡ j' → s ≡ s' → p ≡ p' → i ≡ i' → f ≡ f'
-      → ◌≡◌ {A = Draft} (record { desc = record { processors = a; memories = b; ios = c; cache = k; quantum = q; journal = j; segments = s; processes = p }; images = i; firsts = f }) (record { desc = record { processors = a'; memories = b'; ios = c'; cache = k'; quantum = q'; journal = j'; segments = s'; processes = p' }; images = i'; firsts = f' })
+        → ◌≡◌ {A = Draft} (record { desc = record { processors = a; memories = b; ios = c; cache = k; quantum = q; journal = j; segments = s; processes = p }; images = i; firsts = f }) (record { desc = record { processors = a'; memories = b'; ios = c'; cache = k'; quantum = q'; journal = j'; segments = s'; processes = p' }; images = i'; firsts = f' })
     fields a a' b b' c c' k k' q q' j j' s s' p p' i i' f f' e1 e2 e3 e4 e5 e6 e7 e8 e9 e10 = cc
 
 pub one : (text : List ℕ) (d e : Draft) → Describes text d → Describes text e → d ≡ e
@@ -193,9 +194,9 @@ one text d e h k =
     let same : said_by (parts_of d) ≡ said_by (parts_of e) = somes_same _ _ (sym h.lines ∙ k.lines) in
     let numbers : (parts_of d).numbers ≡ (parts_of e).numbers = sym (numbers_told (parts_of d)) ∙ ap (filter_map number_said) same ∙ numbers_told (parts_of e) in
     let segs = segments_same d.desc.segments e.desc.segments d.firsts e.firsts h.draft.firsts k.draft.firsts (recursion_from_All IsSegmentDraft d.desc.segments h.draft.each_segment) (recursion_from_All IsSegmentDraft e.desc.segments k.draft.each_segment)
-      (sym (segments_told (parts_of d)) ∙ ap (filter_map segment_said) same ∙ segments_told (parts_of e)) in
+    (sym (segments_told (parts_of d)) ∙ ap (filter_map segment_said) same ∙ segments_told (parts_of e)) in
     let counts : length e.desc.segments ≡ length d.desc.segments = ap length (sym segs.0) in
     let each = recursion_from_All (IsProcessDraft (length e.desc.segments)) e.desc.processes k.draft.each_process in
     let procs = processes_same (length d.desc.segments) d.desc.processes e.desc.processes d.images e.images h.draft.images k.draft.images (recursion_from_All (IsProcessDraft (length d.desc.segments)) d.desc.processes h.draft.each_process) (subst (λ n. AllByRecursion (IsProcessDraft n) e.desc.processes) counts each)
-      (sym (processes_told (parts_of d)) ∙ ap (filter_map process_said) same ∙ processes_told (parts_of e)) in
+    (sym (processes_told (parts_of d)) ∙ ap (filter_map process_said) same ∙ processes_told (parts_of e)) in
     all_same d e (seven_same d e numbers) segs.0 segs.1 procs.0 procs.1

@@ -1,7 +1,7 @@
 -- The parts of a text without a fault are those of a draft.
-use Rattle.std.proofs.Common.{◌≡◌, ℕ, zero, suc, ◌+◌, ◌%◌, ◌<◌, ◌≤◌, Bool, true, false, not, ◌&&◌, cond, ltb, map, ◌⊎◌, Option, Some, None, List, [], ◌∷◌, length, refl, sym, ap, subst, ◌∙◌, arith}
-use Rattle.std.specs.List.{list_any, list_all, AllByRecursion}
-use Rattle.std.proofs.lemmas.Bool.{and_parts, and_from, leb-true, eqb-true, lt-ltb, not_from_false, false_from_ne_true, both_ways, not-false, cases_Bool}
+use Rattle.std.proofs.Common.{◌≡◌, ℕ, ◌<◌, Bool, true, false, not, ◌&&◌, ltb, map, ◌⊎◌, Some, None, List, [], length, refl, sym, ap, subst, ◌∙◌, arith}
+use Rattle.std.specs.List.{list_any}
+use Rattle.std.proofs.lemmas.Bool.{and_parts, and_from, leb-true, eqb-true, lt-ltb, both_ways}
 use Rattle.std.proofs.lemmas.List.Elements.{All-from_recursion}
 use Rattle.seq_words.specs.Masks.{has_bit}
 use Rattle.seq_words.specs.Description.{IsBetween, IsSize}
@@ -13,8 +13,8 @@ use Rattle.seq_manifest.specs.Faults.{is_owned, is_within, some_below, has_gap, 
 use Rattle.seq_manifest.specs.Taking.{IsParts}
 use Rattle.seq_manifest.proofs.Saying.{owned-said_by}
 use Rattle.seq_manifest.proofs.Below.{some_below-from}
-use Rattle.seq_manifest.proofs.Texts.{IsEnded, IsEnded-from, IsReading, reading_says}
-use Rattle.seq_manifest.proofs.Numbering.{owners, numbered}
+use Rattle.seq_manifest.proofs.Texts.{IsEnded-from, IsReading, reading_says}
+use Rattle.seq_manifest.proofs.Numbering.{numbered}
 
 between-from : (least most unit n : ℕ) → is_within least most unit n ≡ true → IsBetween least most n
 between-from least most unit n e = let p = and_parts _ _ (and_parts _ _ e).0 in record { low_at = leb-true _ _ p.0; high_at = leb-true _ _ p.1 }
@@ -28,9 +28,9 @@ unfolding has_gap
 no_gap p parts none l above lt below owned =
     let small : l < 16 = omega arith in
     true_else (list_any (λ q. has_bit q.lines l) p.processes) (λ out.
-        let here : not (is_owned (said_by p) l) ≡ true = ap not (sym (owned-said_by p l parts small) ∙ out) in
-        let there = some_below-from 16 above (λ a. ltb l a && is_owned (said_by p) a) lt (and_from _ _ (lt-ltb _ _ below) (sym (owned-said_by p above parts lt) ∙ owned)) in
-        both_ways _ none (some_below-from 16 l (λ l. not (is_owned (said_by p) l) && some_below 16 (λ a. ltb l a && is_owned (said_by p) a)) small (and_from _ _ here there)))
+    let here : not (is_owned (said_by p) l) ≡ true = ap not (sym (owned-said_by p l parts small) ∙ out) in
+    let there = some_below-from 16 above (λ a. ltb l a && is_owned (said_by p) a) lt (and_from _ _ (lt-ltb _ _ below) (sym (owned-said_by p above parts lt) ∙ owned)) in
+    both_ways _ none (some_below-from 16 l (λ l. not (is_owned (said_by p) l) && some_below 16 (λ a. ltb l a && is_owned (said_by p) a)) small (and_from _ _ here there)))
   where
     true_else : (b : Bool) → (b ≡ false → ⊥) → b ≡ true
     true_else true h = refl

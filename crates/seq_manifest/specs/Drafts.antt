@@ -1,7 +1,6 @@
 -- Which text describes which draft of a machine.
-use Rattle.std.specs.Prelude.{◌≡◌, ◌≤◌, ◌<◌, ◌^◌, ℕ, Bool, true, not, ◌⊎◌, nat_lt, if◌then◌else◌, map, List, [], ◌∷◌, ◌++◌, length, Some, All, count_ones}
+use Rattle.std.specs.Prelude.{◌≡◌, ◌≤◌, ◌<◌, ◌^◌, ℕ, true, not, ◌⊎◌, nat_lt, if◌then◌else◌, map, List, [], ◌∷◌, ◌++◌, length, Some, All, count_ones}
 use Rattle.std.specs.List.{filter, zip, range_with_len}
-use Rattle.seq_words.specs.declared.description.MachineDesc.{MachineDesc}
 use Rattle.seq_words.specs.declared.description.SegmentDesc.{SegmentDesc}
 use Rattle.seq_words.specs.declared.description.ProcessDesc.{ProcessDesc}
 use Rattle.seq_words.specs.Description.{IsBetween, IsSize, owner_count, line_count}

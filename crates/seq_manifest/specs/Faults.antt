@@ -1,7 +1,6 @@
 -- The first rule that a text violates, with its line from 1.
 use Rattle.std.specs.Prelude.{ℕ, zero, suc, ◌+◌, ◌%◌, Bool, true, false, not, ◌&&◌, ◌||◌, ◌==◌, nat_lt, nat_le, if◌then◌else◌, List, [], ◌∷◌, ◌++◌, length, Option, Some, None, count_by}
 use Rattle.std.specs.List.{list_any}
-use Rattle.std.specs.Option.{option_map}
 use Rattle.seq_text.specs.Lines.{lines_of}
 use Rattle.seq_text.specs.Words.{words_of}
 use Rattle.seq_manifest.specs.declared.heading.Heading.{Heading}

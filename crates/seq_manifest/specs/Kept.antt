@@ -1,5 +1,5 @@
 -- What the reader keeps of a statement: numbers that are too large for every limit as one, and lists as masks.
-use Rattle.std.specs.Prelude.{ℕ, ◌+◌, ◌^◌, max, Bool, ◌==◌, nat_lt, if◌then◌else◌, Option, Some, None, List, [], length, fold, bit_or}
+use Rattle.std.specs.Prelude.{ℕ, ◌+◌, ◌^◌, max, ◌==◌, nat_lt, if◌then◌else◌, Option, Some, None, List, [], length, fold, bit_or}
 use Rattle.std.specs.List.{slice_split}
 use Rattle.seq_text.specs.Numbers.{capped}
 use Rattle.seq_manifest.specs.declared.heading.Heading.{Heading}
@@ -12,12 +12,14 @@ use Rattle.seq_manifest.specs.Faults.{is_ascending}
 -- the mask with the bits of these numbers, of those that are below 16
 abbrev pub with_bit : ℕ → ℕ → ℕ
 with_bit mask n = if nat_lt n 16 then bit_or mask (2 ^ n) else mask
+
 unfoldable pub mask_of : List ℕ → ℕ
 mask_of ns = fold with_bit 0 ns
 
 -- one above the greatest number
 abbrev pub above : ℕ → ℕ → ℕ
 above end n = max end (capped n + 1)
+
 unfoldable pub end_of : List ℕ → ℕ
 end_of ns = fold above 0 ns
 

@@ -9,6 +9,7 @@ use seq_words::MachineDesc;
 
 // The rules at the end of the text.
 const ENDS_EARLY: u16 = 11;
+
 const GAP: u16 = 15;
 
 impl Parts {

@@ -8,5 +8,4 @@ pub fn one_draft()
     ensures some { (text : List ℕ) → first_fault text ≡ None → (d : Draft) × Describes text d }
     ensures none { (text : List ℕ) (d : Draft) → Describes text d → first_fault text ≡ None }
     ensures one { (text : List ℕ) (d e : Draft) → Describes text d → Describes text e → d ≡ e }
-{
-}
+{}

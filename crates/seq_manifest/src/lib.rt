@@ -13,3 +13,6 @@ mod statement;
 pub use draft::Draft;
 pub use laws::one_draft;
 pub use reading::read;
+
+#[cfg(test)]
+mod tests;

@@ -233,6 +233,9 @@ impl Parts {
 
 // The rules of a line.
 const MISPLACED: u16 = 11;
+
 const OUT_OF_LIMITS: u16 = 12;
+
 const BADLY_LISTED: u16 = 13;
+
 const ABSENT: u16 = 14;

@@ -1,4 +1,4 @@
-use Rattle.std.proofs.Common.{sym, refl, ap, ◌∙◌}
+use Rattle.std.proofs.Common.{sym, ap, ◌∙◌}
 use Rattle.std.specs.Str.{bytes_eq}
 use Rattle.seq_manifest.proofs.Sequences.{list_of-dash, list_of-numbers}
 use Rattle.seq_manifest.proofs.lists.number_list.Goals as goal

@@ -1,4 +1,3 @@
-use Rattle.std.proofs.Common.{refl}
 use Rattle.seq_manifest.proofs.Sequences.{so_far-first, so_far-next}
 use Rattle.seq_manifest.proofs.lists.numbers.Goals as goal
 

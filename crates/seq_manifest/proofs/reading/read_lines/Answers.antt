@@ -1,4 +1,4 @@
-use Rattle.std.proofs.Common.{sym, ◌∙◌, ap, refl, arith, Err}
+use Rattle.std.proofs.Common.{sym, ap, Err}
 use Rattle.std.proofs.lemmas.Bool.{eqb-true}
 use Rattle.seq_manifest.proofs.Errors.{refused_at, refused_is}
 use Rattle.seq_manifest.proofs.Texts.{reading_starts, reading_goes, reading_stops, stopped_at_end, ended, IsEnded-from}

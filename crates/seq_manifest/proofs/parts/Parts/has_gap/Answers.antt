@@ -1,6 +1,6 @@
 use Rattle.std.proofs.Common.{sym, ◌∙◌, ◌&&◌, not, nat_lt}
 use Rattle.seq_manifest.specs.Drafts.{said_by}
-use Rattle.seq_manifest.specs.Faults.{is_owned, some_below, has_gap}
+use Rattle.seq_manifest.specs.Faults.{is_owned, some_below}
 use Rattle.seq_manifest.proofs.Below.{some_below-zero, below_step, or_then, or_else}
 use Rattle.seq_manifest.proofs.parts.Parts.has_gap.Goals as goal
 use Rattle.seq_manifest.proofs.parts.Parts.has_gap.Goals.{then-some, else-some}

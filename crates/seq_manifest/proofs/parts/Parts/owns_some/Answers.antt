@@ -1,4 +1,4 @@
-use Rattle.std.proofs.Common.{sym, ◌∙◌, ◌&&◌, ◌||◌, ◌≡◌}
+use Rattle.std.proofs.Common.{sym, ◌∙◌, ◌&&◌}
 use Rattle.seq_words.specs.Masks.{has_bit}
 use Rattle.seq_manifest.specs.Drafts.{said_by}
 use Rattle.seq_manifest.specs.Faults.{is_owned}

@@ -1,4 +1,4 @@
-use Rattle.std.proofs.Common.{◌≡◌, ◌&&◌, not, nat_lt}
+use Rattle.std.proofs.Common.{◌≡◌, ◌&&◌, nat_lt}
 use Rattle.seq_manifest.specs.Drafts.{said_by}
 use Rattle.seq_manifest.specs.Faults.{is_owned, some_below}
 use Rattle.seq_manifest.proofs.parts.Parts.owns_some_above.Given as goal

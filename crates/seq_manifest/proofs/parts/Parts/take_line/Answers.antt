@@ -1,8 +1,6 @@
-use Rattle.std.proofs.Common.{sym, ◌∙◌, ap, refl, subst}
+use Rattle.std.proofs.Common.{sym}
 use Rattle.std.proofs.lemmas.Result.{on_ok_weaker}
-use Rattle.seq_manifest.specs.Drafts.{said_by}
-use Rattle.seq_manifest.specs.Taking.{IsParts, kept_rule, with_kept}
-use Rattle.seq_manifest.proofs.Lines.{IsForm-said, kept_some, line_rule-said, with_line-said, on_ok_both}
+use Rattle.seq_manifest.proofs.Lines.{on_ok_both}
 use Rattle.seq_manifest.proofs.Taken.{rule_of-line, none_of-line, said_of-line, parts_of-line}
 use Rattle.seq_manifest.proofs.parts.Parts.take_line.Goals as goal
 
