@@ -5,6 +5,7 @@
 mod bytes;
 mod description;
 mod events;
+mod half;
 mod items;
 mod masks;
 mod names;
@@ -13,6 +14,7 @@ mod regs;
 pub use bytes::{Bytes, NoMemory};
 pub use description::{MachineDesc, ProcessDesc, SegmentDesc};
 pub use events::{Entry, Event, ReadError};
+pub use half::Half;
 pub use items::Items;
 pub use masks::has_bit;
 pub use names::{Ioe, LineNo, Pe, Pid, Seg};
