@@ -1,0 +1,8 @@
+//! The pair of register sets of a processor. Both halves take each instruction, and a half that was struck shows where their
+//! pcs or effects differ.
+#![tactic(auto)]
+
+mod halves;
+
+pub use halves::{Pair, Turn};
+pub use seq_words::Half;
