@@ -1,13 +1,11 @@
 pub mod Seen
 pub mod Gathered
-pub mod Puts
 pub mod Stores
 pub mod Masks
 pub mod Mapped
 pub mod CallCases
 pub mod PlainEffects
 pub mod Cases
-pub mod Aligned
 pub mod Wholes
 pub mod Grows
 pub mod Runs

@@ -1,23 +1,31 @@
 -- A store in the lists of the flat machine is the store in the memory that the process sees.
-use Rattle.std.proofs.Common.{◌≡◌, ◌≢◌, ◌⊎◌, ℕ, ◌+◌, ◌%◌, ◌<◌, ◌≤◌, Bool, true, false, List, [], length, get_or, set, slice_get, Option, Some, None, arith, refl, sym, ◌∙◌, ap, subst, inl, inr, get_or-set_same, get_or-set_other}
+use Rattle.std.proofs.Common.{is_none, ◌≡◌, ◌≢◌, ◌⊎◌, ℕ, ◌+◌, ◌%◌, ◌<◌, ◌≤◌, Bool, true, false, List, [], length, get_or, set, slice_get, Option, Some, None, arith, refl, sym, ◌∙◌, ap, subst, inl, inr, get_or-set_same, get_or-set_other}
 use Rattle.std.proofs.lemmas.List.{get_or_past}
 use Rattle.std.proofs.lemmas.Bool.{cases_lt, cases_eq, lt-ltb, le-ltb}
 use Rattle.std.proofs.lemmas.Bool.Decides.{nat_tests}
 use mathlib.Core.Path.{fun_ext}
 use Rattle.seq_isa.specs.Meaning.{Bytes, number_at, stored}
 use Rattle.seq_rv32.specs.Widths.{IsWidth}
+use Rattle.seq_rv32.specs.ByteMemory.{bytes_stored}
 use Rattle.seq_rv32.specs.declared.port.Admit.{Admit}
 use Rattle.seq_rv32.specs.declared.port.Admit.TheVariants.{Fits, Outside}
 use Rattle.seq_flat.specs.declared.state.SegmentState.{SegmentState}
 use Rattle.seq_flat.specs.State.{no_segment}
-use Rattle.seq_flat.specs.Memory.{is_owner, segment_of, offset_of, shared_bytes, seen, admitted, put, bytes_after, segments_after}
+use Rattle.seq_flat.specs.Memory.{is_owner, segment_of, offset_of, shared_bytes, seen, admitted, bytes_after, segments_after}
 use Rattle.seq_flat.proofs.Seen.{number_seen, seen_private, seen_shared}
-use Rattle.seq_flat.proofs.Puts.{number_inside, put_stored}
+use Rattle.seq_rv32.proofs.Numbers.{number_none, bytes_stored_is}
 
 -- where a store may be made, there is a number
 there : (o : Option ℕ) → admitted o ≡ Fits → (n : ℕ) × (o ≡ Some n)
 there (Some n) e = (n, refl)
 there None e = absurd (let c : ◌≡◌ {A = Admit} Outside Fits = e in cc)
+
+-- a number that is there lies within the list
+number_inside : (xs : List ℕ) (at width n : ℕ) → number_at (slice_get xs) at width ≡ Some n → 0 < width → at + width ≤ length xs
+number_inside xs at width n e p = elim (cases_lt (length xs) (at + width)) [
+  | inl past ↦ absurd (let none = number_none xs at width past p in let some : is_none (number_at (slice_get xs) at width) ≡ false = rw e refl in cc)
+  | inr inside ↦ inside
+]
 
 positive : (width : ℕ) → IsWidth width → 0 < width
 positive width (inl e) = omega arith
@@ -96,15 +104,15 @@ high_whole at width (inl e) aligned high = omega arith
 high_whole at width (inr (inl e)) aligned high = let even : at % 2 ≡ 0 = subst (λ w. at % w ≡ 0) e aligned in omega arith
 high_whole at width (inr (inr e)) aligned high = let four : at % 4 ≡ 0 = subst (λ w. at % w ≡ 0) e aligned in omega arith
 
-pub stores_private : (bytes : List ℕ) (segments : List SegmentState) (p at width v : ℕ) → IsWidth width → at % width ≡ 0 → at < 1073741824 → at + width ≤ length bytes → seen (put bytes at width v) segments p ≡ stored (seen bytes segments p) at width v
+pub stores_private : (bytes : List ℕ) (segments : List SegmentState) (p at width v : ℕ) → IsWidth width → at % width ≡ 0 → at < 1073741824 → at + width ≤ length bytes → seen (bytes_stored bytes at width v) segments p ≡ stored (seen bytes segments p) at width v
 stores_private bytes segments p at width v wide aligned low inside = fun_ext (λ a. elim (cases_lt a 1073741824) [
   | inl here ↦
-      seen_low (put bytes at width v) segments p a here
-      ∙ ap (λ (f : Bytes). f a) (put_stored bytes at width v inside)
+      seen_low (bytes_stored bytes at width v) segments p a here
+      ∙ ap (λ (f : Bytes). f a) (bytes_stored_is bytes at width v inside)
       ∙ stored_moved (slice_get bytes) (seen bytes segments p) at at width v a a refl (sym (seen_low bytes segments p a here))
   | inr past ↦
       let below : at + width ≤ 1073741824 = low_whole at width wide aligned low in
-      seen_high (put bytes at width v) segments p a past
+      seen_high (bytes_stored bytes at width v) segments p a past
       ∙ sym (seen_high bytes segments p a past)
       ∙ sym (stored_out (seen bytes segments p) at width v a (inr (omega arith)))
 ])
@@ -120,10 +128,10 @@ elsewhere at width a high past whole other = elim (cases_lt a at) [
 ]
 
 pub stores_shared : (bytes : List ℕ) (segments : List SegmentState) (p at width v : ℕ) → IsWidth width → at % width ≡ 0 → 1073741824 ≤ at → IsShared segments p at width
-    → seen bytes (set segments (segment_of at) (let s = get_or segments (segment_of at) no_segment in record s { bytes = put s.bytes (offset_of at) width v })) p ≡ stored (seen bytes segments p) at width v
+    → seen bytes (set segments (segment_of at) (let s = get_or segments (segment_of at) no_segment in record s { bytes = bytes_stored s.bytes (offset_of at) width v })) p ≡ stored (seen bytes segments p) at width v
 stores_shared bytes segments p at width v wide aligned high shared =
     let s : SegmentState = get_or segments (segment_of at) no_segment in
-    let t : SegmentState = record s { bytes = put s.bytes (offset_of at) width v } in
+    let t : SegmentState = record s { bytes = bytes_stored s.bytes (offset_of at) width v } in
     let after : List SegmentState = set segments (segment_of at) t in
     let whole : offset_of at + width ≤ 65536 = high_whole at width wide aligned high in
     fun_ext (λ a. elim (cases_lt a 1073741824) [
@@ -137,7 +145,7 @@ stores_shared bytes segments p at width v wide aligned high shared =
             seen_high bytes after p a past
             ∙ ap (λ (g : SegmentState). slice_get (shared_bytes p g) (offset_of a)) here
             ∙ ap (λ (xs : List ℕ). slice_get xs (offset_of a)) held_after
-            ∙ ap (λ (f : Bytes). f (offset_of a)) (put_stored s.bytes (offset_of at) width v shared.inside)
+            ∙ ap (λ (f : Bytes). f (offset_of a)) (bytes_stored_is s.bytes (offset_of at) width v shared.inside)
             ∙ sym (stored_moved (seen bytes segments p) (slice_get s.bytes) at (offset_of at) width v a (offset_of a) moved before)
         | inr other ↦
             seen_high bytes after p a past
@@ -148,7 +156,7 @@ stores_shared bytes segments p at width v wide aligned high shared =
     ])
 
 -- the lists after a store, by where its address lies
-pub bytes_after_low : (bytes : List ℕ) (at width v : ℕ) → at < 1073741824 → bytes_after bytes at width v ≡ put bytes at width v
+pub bytes_after_low : (bytes : List ℕ) (at width v : ℕ) → at < 1073741824 → bytes_after bytes at width v ≡ bytes_stored bytes at width v
 unfolding bytes_after
 bytes_after_low bytes at width v low = rw (lt-ltb at 1073741824 low) refl
 
@@ -161,6 +169,6 @@ unfolding segments_after
 segments_after_low segments at width v low = rw (lt-ltb at 1073741824 low) refl
 
 pub segments_after_high : (segments : List SegmentState) (at width v : ℕ) → 1073741824 ≤ at
-    → segments_after segments at width v ≡ set segments (segment_of at) (let s = get_or segments (segment_of at) no_segment in record s { bytes = put s.bytes (offset_of at) width v })
+    → segments_after segments at width v ≡ set segments (segment_of at) (let s = get_or segments (segment_of at) no_segment in record s { bytes = bytes_stored s.bytes (offset_of at) width v })
 unfolding segments_after
 segments_after_high segments at width v high = rw (le-ltb at 1073741824 high) refl

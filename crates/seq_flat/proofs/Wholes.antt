@@ -24,7 +24,8 @@ use Rattle.seq_flat.specs.Memory.{is_owner, seen, bytes_from}
 use Rattle.seq_flat.specs.Calls.{argument, answered, ended, taken_by, acquire, release, read_next, read, written, write, kernel_call}
 use Rattle.seq_flat.specs.Step.{process_moved, moved, outcome, performed, is_live, step_or_wait}
 use Rattle.seq_flat.specs.Whole.{IsWhole}
-use Rattle.seq_flat.proofs.Aligned.{IsAligned, next_aligned}
+use Rattle.seq_isa.specs.Laws.{moves_aligned}
+use Rattle.seq_isa.proofs.Alignment.{outcome_aligned}
 
 -- the state after a step, if it is one, is whole
 Keeps : Result FlatState Waits → Type 0
@@ -125,7 +126,7 @@ whole_moved f p wrote store next w aligned =
     whole_segments (with_process f p (process_moved (process_at f p) wrote store next)) _
     (whole_process f p _ w (λ there. subst (λ n. n % 4 ≡ 0) (sym (after_pc (process_at f p).regs wrote next)) (aligned there)))
 
-performed_keeps : (rights : Rights) (inputs : List LineInput) (f : FlatState) (p : ℕ) (o : Outcome) → IsWhole f → (p < length f.processes → IsAligned o) → Keeps (performed rights inputs f p o)
+performed_keeps : (rights : Rights) (inputs : List LineInput) (f : FlatState) (p : ℕ) (o : Outcome) → IsWhole f → (p < length f.processes → moves_aligned o) → Keeps (performed rights inputs f p o)
 unfolding Keeps
 performed_keeps rights inputs f p (moves wrote store next) w aligned = whole_moved f p wrote store next w aligned
 performed_keeps rights inputs f p call w aligned = call_keeps rights inputs f p (register (process_at f p).regs 17) w
@@ -135,7 +136,7 @@ keeps_step : (rights : List Rights) (inputs : List LineInput) (f : FlatState) (p
 unfolding Keeps step_or_wait
 keeps_step rights inputs f p w =
     either Keeps (nat_lt p (length f.processes) && is_live (process_at f p).end) _ _
-    (performed_keeps (rights_at rights p) inputs f p (outcome f p) w (λ there. next_aligned (process_at f p).regs (seen (process_at f p).bytes f.segments p) (w.aligned p there))) tt
+    (performed_keeps (rights_at rights p) inputs f p (outcome f p) w (λ there. (outcome_aligned (process_at f p).regs (seen (process_at f p).bytes f.segments p) (w.aligned p there)).next)) tt
 
 pub step_whole : (rights : List Rights) (inputs : List LineInput) (f g : FlatState) (p : ℕ) → IsWhole f → step_or_wait rights inputs f p ≡ Ok g → IsWhole g
 unfolding Keeps

@@ -6,7 +6,7 @@ use Rattle.seq_rv32.specs.declared.effects.Effect.TheVariants as effect
 use Rattle.seq_flat.specs.declared.state.ProcessState.{ProcessState}
 use Rattle.seq_flat.specs.declared.state.SegmentState.{SegmentState}
 use Rattle.seq_flat.specs.declared.state.FlatState.{FlatState}
-use Rattle.seq_flat.specs.Step.{process_moved, segments_stored, moved}
+use Rattle.seq_flat.specs.Step.{process_moved, segments_next, moved}
 
 -- the effect of an outcome
 abbrev pub plain_effect : Outcome → Effect
@@ -22,7 +22,7 @@ process_after q (effect.Trap cause) = q
 process_after q effect.Full = q
 
 abbrev pub segments_after_effect : List SegmentState → Effect → List SegmentState
-segments_after_effect segments (effect.Next wrote store next) = segments_stored segments store
+segments_after_effect segments (effect.Next wrote store next) = segments_next segments store
 segments_after_effect segments effect.Call = segments
 segments_after_effect segments (effect.Trap cause) = segments
 segments_after_effect segments effect.Full = segments

@@ -7,6 +7,7 @@ use Rattle.seq_words.specs.declared.names.Pid.{Pid}
 use Rattle.seq_isa.specs.Meaning.{Bytes}
 use Rattle.seq_rv32.specs.declared.port.Admit.{Admit}
 use Rattle.seq_rv32.specs.declared.port.Admit.TheVariants.{Fits, Outside}
+use Rattle.seq_rv32.specs.ByteMemory.{bytes_stored}
 use Rattle.seq_flat.specs.declared.state.SegmentState.{SegmentState}
 use Rattle.seq_flat.specs.State.{no_segment}
 
@@ -35,19 +36,14 @@ abbrev pub admitted : Option ℕ → Admit
 admitted (Some number) = Fits
 admitted None = Outside
 
--- a list after so many low bytes of a number were put at a place
-unfoldable pub put : List ℕ → ℕ → ℕ → ℕ → List ℕ
-put bytes at zero value = bytes
-put bytes at (suc width) value = slice_set (put bytes at width value) (at + width) (byte_at width value)
-
 -- the private bytes and the segments after a store: address, width, value
 unfoldable pub bytes_after : List ℕ → ℕ → ℕ → ℕ → List ℕ
-bytes_after bytes at width value = if nat_lt at 1073741824 then put bytes at width value else bytes
+bytes_after bytes at width value = if nat_lt at 1073741824 then bytes_stored bytes at width value else bytes
 
 unfoldable pub segments_after : List SegmentState → ℕ → ℕ → ℕ → List SegmentState
 segments_after segments at width value =
     if nat_lt at 1073741824 then segments
-    else (let s = slice_index_or segments (segment_of at) no_segment in slice_set segments (segment_of at) (record s { bytes = put s.bytes (offset_of at) width value }))
+    else (let s = slice_index_or segments (segment_of at) no_segment in slice_set segments (segment_of at) (record s { bytes = bytes_stored s.bytes (offset_of at) width value }))
 
 -- so many bytes from an address on, modulo 2 ^ 32, where all of them are inside
 unfoldable pub bytes_from : Bytes → ℕ → ℕ → Option (List ℕ)

@@ -18,21 +18,21 @@ use Rattle.seq_flat.specs.Memory.{seen, bytes_after, segments_after}
 use Rattle.seq_flat.specs.Calls.{ended, kernel_call}
 
 -- private bytes and segments after the store of an instruction, if it makes one
-abbrev pub bytes_stored : List ℕ → Option (ℕ × ℕ × ℕ) → List ℕ
-bytes_stored bytes (Some s) = bytes_after bytes s.0 s.1 s.2
-bytes_stored bytes None = bytes
+abbrev pub bytes_next : List ℕ → Option (ℕ × ℕ × ℕ) → List ℕ
+bytes_next bytes (Some s) = bytes_after bytes s.0 s.1 s.2
+bytes_next bytes None = bytes
 
-abbrev pub segments_stored : List SegmentState → Option (ℕ × ℕ × ℕ) → List SegmentState
-segments_stored segments (Some s) = segments_after segments s.0 s.1 s.2
-segments_stored segments None = segments
+abbrev pub segments_next : List SegmentState → Option (ℕ × ℕ × ℕ) → List SegmentState
+segments_next segments (Some s) = segments_after segments s.0 s.1 s.2
+segments_next segments None = segments
 
 -- a process after an instruction that wrote a register, stored bytes, and goes on at an address
 abbrev pub process_moved : ProcessState → Option (ℕ × ℕ) → Option (ℕ × ℕ × ℕ) → ℕ → ProcessState
-process_moved q wrote store next = record q { regs = registers_after q.regs wrote next; bytes = bytes_stored q.bytes store }
+process_moved q wrote store next = record q { regs = registers_after q.regs wrote next; bytes = bytes_next q.bytes store }
 
 -- the state after such an instruction of process p
 unfoldable pub moved : FlatState → ℕ → Option (ℕ × ℕ) → Option (ℕ × ℕ × ℕ) → ℕ → FlatState
-moved f p wrote store next = record (with_process f p (process_moved (process_at f p) wrote store next)) { segments = segments_stored f.segments store }
+moved f p wrote store next = record (with_process f p (process_moved (process_at f p) wrote store next)) { segments = segments_next f.segments store }
 
 -- what the instruction at its pc does, in the memory that process p sees
 abbrev pub outcome : FlatState → ℕ → Outcome

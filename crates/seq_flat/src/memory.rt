@@ -2,8 +2,9 @@
 ghost use Rattle.std.specs.Prelude.{◌≡◌, ℕ, ◌+◌, ◌-◌, ◌*◌, ◌/◌, ◌%◌, ◌^◌, ◌<◌, ◌≤◌, ◌==◌, List, [], length, take, slice_get, slice_index_or, IfSome, Some, None, Option, MatchOption, true, option_map};
 ghost use Rattle.seq_isa.specs.Meaning.{number_at};
 ghost use Rattle.seq_rv32.specs.Widths.{IsWidth};
+ghost use Rattle.seq_rv32.specs.ByteMemory.{bytes_stored};
 ghost use Rattle.seq_flat.specs.State.{no_segment};
-ghost use Rattle.seq_flat.specs.Memory.{is_owner, shared_bytes, seen, put, bytes_from, segments_after};
+ghost use Rattle.seq_flat.specs.Memory.{is_owner, shared_bytes, seen, bytes_from, segments_after};
 
 use crate::SegmentState;
 use seq_rv32::{Admit, Port};
@@ -134,7 +135,7 @@ fn put(bytes: &mut Bytes, at: usize, width: u8, value: u32)
     requires width { IsWidth width }
     requires inside { at + width ≤ length bytes.old }
     requires at { at < 2 ^ 32 }
-    ensures { bytes.new ≡ put bytes.old at width value }
+    ensures { bytes.new ≡ bytes_stored bytes.old at width value }
 {
     let low = value.to_le_bytes();
     for i in 0..width as usize {

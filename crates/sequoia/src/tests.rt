@@ -163,11 +163,20 @@ fn words_of(alloc: Global, words: &[&str]) -> Result<Vec<String>, AllocError> {
     Ok(all)
 }
 
-// Runs a command over files in memory: how it ended, and how many entries of one step of process 0 were appended.
+// The contents of the files `a1.txt`, `hello.sqi` and `s.txt`.
+#[derive(Clone, Copy)]
+struct Files {
+    machine: &'static str,
+    image: &'static [u8],
+    schedule: &'static str,
+}
+
+// Runs a command over files in memory: how it ended, and how many entries of one step of process 0 were appended, if all
+// are such.
 fn run(
     alloc: Global,
-    words: &[&str],
-    files: &[(&str, &[u8])],
+    words: &'static [&'static str],
+    files: Files,
     failing: Failing,
     lines: &mut Vec<Outlet>,
 ) -> Result<(Status, Option<usize>), Fail>
@@ -175,9 +184,9 @@ fn run(
     requires fresh { AreFresh (views line lines.old.items) (marks lines.old.items) }
 {
     let mut shelf = MemShelf::new(alloc, Bytes::copy_of(alloc, failing.loads)?);
-    for (name, content) in files {
-        shelf.put(name, content)?;
-    }
+    shelf.put("a1.txt", files.machine.as_bytes())?;
+    shelf.put("hello.sqi", files.image)?;
+    shelf.put("s.txt", files.schedule.as_bytes())?;
     let mut sink = SoundSink::new(alloc);
     let mut chronicle = MemChronicle::new(alloc, Bytes::copy_of(alloc, failing.appends)?);
     let words = words_of(alloc, words)?;
@@ -191,6 +200,8 @@ fn run(
     Ok((status, if all_steps { Some(pairs.len()) } else { None }))
 }
 
+const RUN: &[&str] = &["run", "a1.txt", "s.txt"];
+
 #[test]
 fn rows(rt: HostRuntime) -> Result<(), Fail> {
     let alloc = rt.alloc();
@@ -202,18 +213,12 @@ fn rows(rt: HostRuntime) -> Result<(), Fail> {
             let line = SoundLine::new(alloc);
             add_line(&mut lines, Box::new(alloc, line)?)?;
         }
-        let files = [
-            ("a1.txt", MACHINE.as_bytes()),
-            ("hello.sqi", HELLO.as_slice()),
-            ("s.txt", row.schedule.as_bytes()),
-        ];
-        let (status, entries) = run(
-            alloc,
-            &["run", "a1.txt", "s.txt"],
-            &files,
-            row.failing,
-            &mut lines,
-        )?;
+        let files = Files {
+            machine: MACHINE,
+            image: &HELLO,
+            schedule: row.schedule,
+        };
+        let (status, entries) = run(alloc, RUN, files, row.failing, &mut lines)?;
         assert_eq!(rt; status, row.status, "{}", row.schedule);
         assert_eq!(rt; entries, Some(row.entries), "{}", row.schedule);
         assert_eq!(rt; lines.len(), 16);
@@ -223,13 +228,12 @@ fn rows(rt: HostRuntime) -> Result<(), Fail> {
     Ok(())
 }
 
-// Commands that are answered before any run: the words, the description, the image, and the status.
-const RUN: &[&str] = &["run", "a1.txt", "s.txt"];
-
+// An image whose private size is 65,568.
 const LONG_IMAGE: [u8; 17] = [
     0x53, 0x51, 0x49, 0x31, 0x20, 0, 1, 0, 0, 0, 0, 0, 0, 0, 0, 0, 0,
 ];
 
+// Commands that are answered before any run: the words, the description, the image, and the status.
 const OPENINGS: [(&[&str], &str, &[u8], Status); 12] = [
     (&[], MACHINE, &HELLO, Status::Usage),
     (&["run", "a1.txt"], MACHINE, &HELLO, Status::Usage),
@@ -305,12 +309,12 @@ fn openings(rt: HostRuntime) -> Result<(), Fail> {
             let line = SoundLine::new(alloc);
             add_line(&mut lines, Box::new(alloc, line)?)?;
         }
-        let files = [
-            ("a1.txt", machine.as_bytes()),
-            ("hello.sqi", image),
-            ("s.txt", EIGHT_STEPS.as_bytes()),
-        ];
-        let (status, entries) = run(alloc, words, &files, NONE, &mut lines)?;
+        let files = Files {
+            machine,
+            image,
+            schedule: EIGHT_STEPS,
+        };
+        let (status, entries) = run(alloc, words, files, NONE, &mut lines)?;
         assert_eq!(rt; status, wanted);
         assert_eq!(rt; entries, Some(0));
         assert_eq!(rt; lines.len(), 16);
@@ -324,13 +328,9 @@ fn openings(rt: HostRuntime) -> Result<(), Fail> {
 fn over_files(rt: HostRuntime) -> Result<(), Fail> {
     let alloc = rt.alloc();
     let mut shelf = FileShelf::new(&rt, alloc);
-    for (name, content) in [
-        ("a1.txt", MACHINE.as_bytes()),
-        ("hello.sqi", HELLO.as_slice()),
-        ("s.txt", EIGHT_STEPS.as_bytes()),
-    ] {
-        fs::write(&rt, name, content)?;
-    }
+    fs::write(&rt, "a1.txt", MACHINE)?;
+    fs::write(&rt, "hello.sqi", HELLO)?;
+    fs::write(&rt, "s.txt", EIGHT_STEPS)?;
     let mut lines = Vec::new(alloc);
     for n in 0..LINES {
         let line = FileLine::new(rt.clone()?, line_file(alloc, n)?);
