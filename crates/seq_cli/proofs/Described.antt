@@ -1,5 +1,5 @@
 -- A draft that is built, with an image, describes a machine.
-use Rattle.std.proofs.Common.{◌≡◌, ℕ, zero, suc, ◌<◌, Bool, true, List, [], ◌∷◌, length, get_or, set, arith, refl, sym, ◌∙◌, ap, subst, lit≤}
+use Rattle.std.proofs.Common.{◌≡◌, ℕ, zero, suc, ◌<◌, true, List, [], ◌∷◌, length, get_or, set, arith, refl, sym, ap, subst, lit≤}
 use Rattle.std.specs.Prelude.{◌&&◌, ◌==◌, nat_le, nat_lt, count_ones, count_by, sum_by, if◌then◌else◌}
 use Rattle.std.proofs.lemmas.Bool.{and_parts, eqb-true}
 use Rattle.seq_words.specs.Masks.{has_bit}

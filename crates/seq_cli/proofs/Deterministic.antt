@@ -1,6 +1,5 @@
 -- Words and files ask for one thing alone.
-use Rattle.std.proofs.Common.{get_or, ◌≡◌, ◌⊎◌, inl, inr, ℕ, Bool, true, false, Option, Some, None, List, [], refl, sym, ◌∙◌, ap, subst}
-use Rattle.seq_words.specs.declared.description.MachineDesc.{MachineDesc}
+use Rattle.std.proofs.Common.{get_or, ◌≡◌, ◌⊎◌, inr, ℕ, Bool, true, false, Option, Some, None, List, [], refl, sym, ◌∙◌, subst}
 use Rattle.seq_words.specs.declared.events.Event.{Event}
 use Rattle.seq_shelf.specs.Told.{Map}
 use Rattle.seq_loader.specs.declared.image.Image.{Image}
@@ -13,7 +12,6 @@ use Rattle.seq_manifest.specs.Faults.{first_fault as description_fault}
 use Rattle.seq_manifest.proofs.Unique.{one}
 use Rattle.seq_cli.specs.declared.status.Status.{Status}
 use Rattle.seq_cli.specs.declared.status.Status.TheVariants.{Done, Usage, Refused, Absent, ShelfFault, ChronicleFault, LineFault, NoMemory}
-use Rattle.seq_cli.specs.Schedule.{schedule_of}
 use Rattle.seq_cli.specs.Opening.{Opening, absent, refused, ready, file_fault, form_of, is_built, with_image, schedule_fault, Schedules, OpensText, OpensFile, OpensSchedule, OpensImage, OpensBuilt, OpensMachine, OpensForm, Opens, AsksRun}
 use Rattle.seq_cli.specs.Loads.{Stops}
 

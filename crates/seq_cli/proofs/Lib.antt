@@ -8,3 +8,4 @@ pub mod Runs
 pub mod Sound
 pub mod Tops
 pub mod Deterministic
+pub mod Hello

@@ -1,5 +1,5 @@
 -- Lemmas on what the words and files ask for.
-use Rattle.std.proofs.Common.{true, inl, inr, ◌≡◌, ℕ, ◌<◌, ◌≤◌, Option, Some, List, length, refl, sym, ◌∙◌, ap, subst}
+use Rattle.std.proofs.Common.{true, ◌≡◌, ℕ, ◌<◌, ◌≤◌, Option, Some, List, length, refl, sym, ◌∙◌, ap, subst}
 use Rattle.std.proofs.lemmas.Bool.{lt-ltb, le-ltb}
 use Rattle.seq_words.specs.declared.events.ReadError.{ReadError}
 use Rattle.seq_words.specs.declared.events.ReadError.TheVariants as read

@@ -1,4 +1,4 @@
-use Rattle.std.proofs.Common.{◌≡◌, ◌∙◌, ap, sym, subst, refl, List, ℕ, true, false}
+use Rattle.std.proofs.Common.{◌≡◌, ◌∙◌, ap, sym, subst, refl, List, ℕ, true}
 use Rattle.seq_loader.specs.Faults.{first_fault}
 use Rattle.seq_loader.specs.Image.{Spells}
 use Rattle.seq_manifest.specs.Drafts.{Describes}
