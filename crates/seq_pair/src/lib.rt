@@ -3,6 +3,8 @@
 #![tactic(auto)]
 
 mod halves;
+#[cfg(test)]
+mod tests;
 
 pub use halves::{Pair, Turn};
 pub use seq_words::Half;
