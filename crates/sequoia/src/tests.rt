@@ -1,11 +1,11 @@
 // Whole commands, with the outside in memory.
-ghost use Rattle.std.specs.Prelude.{◌≡◌, length};
+ghost use Rattle.std.specs.Prelude.{◌≡◌, length, IfOk};
 ghost use Rattle.seq_shelf.specs.Outlets.{views, marks};
 ghost use Rattle.seq_cli.specs.Lines.{AreFresh};
 
 use super::*;
 use seq_shelf::{Line, MemChronicle, MemLine, MemShelf, Outlet, SoundLine, SoundSink};
-use seq_words::{Bytes, Entry, LineNo, Pid};
+use seq_words::{Bytes, Entry, LineNo, NoMemory, Pid};
 use std::fs;
 use std::test::Fail;
 
@@ -163,6 +163,14 @@ fn words_of(alloc: Global, words: &[&str]) -> Result<Vec<String>, AllocError> {
     Ok(all)
 }
 
+// A line that fails at those calls of `send`.
+fn failing_line(alloc: Global, sends: &'static [u8]) -> Result<MemLine, NoMemory>
+    ensures fresh { IfOk result (λ line. (⟦<MemLine as Line>⟧.line line).count ≡ 0) }
+{
+    let failing = Bytes::copy_of(alloc, sends)?;
+    Ok(MemLine::new(alloc, failing))
+}
+
 // The contents of the files `a1.txt`, `hello.sqi` and `s.txt`.
 #[derive(Clone, Copy)]
 struct Files {
@@ -207,10 +215,8 @@ fn rows(rt: HostRuntime) -> Result<(), Fail> {
     let alloc = rt.alloc();
     for row in ROWS {
         let mut lines = Vec::new(alloc);
-        let first = MemLine::new(alloc, Bytes::copy_of(alloc, row.failing.sends)?);
-        add_line(&mut lines, Box::new(alloc, first)?)?;
-        for n in 1u8..16 {
-            let line = SoundLine::new(alloc);
+        for n in 0u8..16 {
+            let line = failing_line(alloc, row.failing.sends)?;
             add_line(&mut lines, Box::new(alloc, line)?)?;
         }
         let files = Files {
@@ -220,7 +226,7 @@ fn rows(rt: HostRuntime) -> Result<(), Fail> {
         };
         let (status, entries) = run(alloc, RUN, files, row.failing, &mut lines)?;
         assert_eq!(rt; status, row.status, "{}", row.schedule);
-        assert_eq!(rt; entries, Some(row.entries), "{}", row.schedule);
+        assert_eq!(rt; entries, Some(row.entries));
         assert_eq!(rt; lines.len(), 16);
         assert_eq!(rt; lines[0].line.accepted(), row.bytes.len() as u64);
         assert_eq!(rt; lines[0].line.byte_at(0), row.bytes.first().copied());
