@@ -33,7 +33,8 @@ fn exit_code(status: &Status) -> ExitCode {
     ExitCode::from(number(status))
 }
 
-fn main(rt: HostRuntime) -> Result<ExitCode, AllocError> {
+// Makes the outside, and does what the words ask for.
+fn command(rt: HostRuntime) -> Result<ExitCode, AllocError> {
     let alloc = rt.alloc();
     let mut lines = Vec::new(alloc);
     for n in 0..LINES {
@@ -58,6 +59,13 @@ fn main(rt: HostRuntime) -> Result<ExitCode, AllocError> {
         &mut sink,
     );
     Ok(exit_code(&status))
+}
+
+fn main(rt: HostRuntime) -> ExitCode {
+    match command(rt) {
+        Ok(code) => code,
+        Err(_) => exit_code(&Status::NoMemory),
+    }
 }
 
 #[cfg(test)]
