@@ -10,18 +10,26 @@ use seq_shelf::{FileLine, FileShelf, OutSink, SoundChronicle};
 use std::alloc::{AllocError, Global};
 use std::env;
 use std::env::Env;
+use std::io::ErrorKind;
 use std::process::ExitCode;
 
 /// The number of lines of the largest machine.
 const LINES: u8 = 16;
 
-// The words after the program's name: none where one of them isn't UTF-8.
-fn read_words(rt: &(impl Env + AllocGlobal), alloc: Global) -> Option<Vec<String>> {
+// The words after the program's name: usage where one of them isn't UTF-8.
+fn read_words(rt: &(impl Env + AllocGlobal), alloc: Global) -> Result<Vec<String>, Status> {
+    let all = match env::args(rt) {
+        Ok(all) => all,
+        Err(error) if error.kind() == ErrorKind::InvalidData => return Err(Status::Usage),
+        Err(_) => return Err(Status::NoMemory),
+    };
     let mut words = Vec::new(alloc);
-    for word in env::args(rt).ok()?.skip(1) {
-        words.push(word).ok()?;
+    for word in all.skip(1) {
+        if words.push(word).is_err() {
+            return Err(Status::NoMemory);
+        }
     }
-    Some(words)
+    Ok(words)
 }
 
 // The file of a line's output.
@@ -44,8 +52,8 @@ fn command(rt: HostRuntime) -> Result<ExitCode, AllocError> {
         }
     }
     let words = match read_words(&rt, alloc) {
-        Some(words) => words,
-        None => return Ok(exit_code(&Status::Usage)),
+        Ok(words) => words,
+        Err(status) => return Ok(exit_code(&status)),
     };
     let mut shelf = FileShelf::new(rt.clone()?, alloc);
     let mut sink = OutSink::new(rt.clone()?);
