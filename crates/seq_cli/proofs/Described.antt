@@ -55,7 +55,7 @@ described_one d p i is h image = subst Claim (sym is) (record {
     draft_of = subst (λ (ps : List ProcessDesc). IsProcessDraft (length d.desc.segments) (get_or ps 0 no_process)) is (h.each_process 0 no_process (let one : length d.desc.processes ≡ 1 = ap length is in omega (arith, one)))
 
     process : (k : ℕ) (e : ProcessDesc) → k < 1 → IsProcess (length d.desc.segments) (get_or (with_process_image p i ∷ []) k e)
-    process zero e lt = record { size = image.size; image = image.fits; aligned = image.aligned; inside = image.inside; granted = draft_of.granted }
+    process zero e lt = record { size = image.size; image = image.fits; aligned = image.aligned; inside = image.inside; few = draft_of.few; granted = draft_of.granted }
     process (suc k) e lt = absurd (let c : ⊥ = omega arith in c)
 
     owners : (l : ℕ) → count_by (λ (q : ProcessDesc). has_bit q.lines l) (with_process_image p i ∷ []) ≡ (if nat_lt l (sum_by (λ (q : ProcessDesc). count_ones q.lines) (with_process_image p i ∷ [])) then 1 else 0)

@@ -26,6 +26,7 @@ pub record IsProcess (segments : ℕ) (p : ProcessDesc) : Type 0 where
   pub image : length p.image ≤ p.size
   pub aligned : p.entry % 4 ≡ 0
   pub inside : p.entry < p.size
+  pub few : count_ones p.lines ≤ 4
   pub granted : (s : ℕ) → has_bit p.grants s ≡ true → s < segments
 
 -- how many lines the processes own together

@@ -1,5 +1,5 @@
-use Rattle.std.proofs.Common.{◌≡◌, ℕ, zero, suc, ◌/◌, ◌^◌, ◌<◌, ◌≤◌, true, false, List, [], ◌∷◌, length, arith, refl, sym, ◌∙◌, ap, inl, inr, get_or}
-use Rattle.std.specs.Prelude.{if◌then◌else◌, nat_lt, count_by}
+use Rattle.std.proofs.Common.{◌≡◌, ℕ, zero, suc, ◌/◌, ◌^◌, ◌<◌, ◌≤◌, true, false, List, [], ◌∷◌, length, arith, refl, sym, ◌∙◌, ap, inl, inr, get_or, lit≤}
+use Rattle.std.specs.Prelude.{if◌then◌else◌, nat_lt, count_by, count_ones}
 use Rattle.std.proofs.Math.Nat.{div-eq_of_lt}
 use Rattle.std.proofs.Math.Pow.{pow_mono}
 use Rattle.std.proofs.lemmas.Bool.{cases_lt, le-ltb}
@@ -30,12 +30,19 @@ small_segment s size first = record {
   first = rw first (omega arith);
 }
 
-process : (p : ProcessDesc) → IsSize 65536 p.size → length p.image ≤ p.size → p.entry ≡ 0 → p.grants < 2 ^ 3 → IsProcess 4 p
-process p size image entry grants = record {
+few_lines : (n : ℕ) → n ≤ 1 → count_ones n ≤ 4
+unfolding ones
+few_lines zero small = lit≤ tt
+few_lines (suc zero) small = lit≤ tt
+few_lines (suc (suc n)) small = absurd (omega arith)
+
+process : (p : ProcessDesc) → IsSize 65536 p.size → length p.image ≤ p.size → p.entry ≡ 0 → p.lines ≤ 1 → p.grants < 2 ^ 3 → IsProcess 4 p
+process p size image entry lines grants = record {
   size = size;
   image = image;
   aligned = rw entry refl;
   inside = let low : 32 ≤ p.size = size.between.low_at in omega arith;
+  few = few_lines p.lines lines;
   granted = λ s has. let lt : s < 3 = granted p.grants 3 s grants has in omega arith;
 }
 
@@ -100,6 +107,6 @@ returns c =
     (small_segment _ c.segment-2.ensures.size c.segment-2.ensures.first)
     (small_segment _ c.segment-3.ensures.size c.segment-3.ensures.first)
     (small_segment _ c.segment-4.ensures.size c.segment-4.ensures.first)
-    (process _ c.requires.size c.requires.image refl (omega arith))
-    (process _ c.requires.size c.requires.other refl (omega arith))
+    (process _ c.requires.size c.requires.image refl (omega arith) (omega arith))
+    (process _ c.requires.size c.requires.other refl (omega arith) (omega arith))
     refl refl)
