@@ -1,0 +1,14 @@
+pub mod Apart
+pub mod Sizes
+pub mod Totals
+pub mod Rows
+pub mod Owners
+pub mod UnitLists
+pub mod CopiesPlaces
+pub mod CopiesElements
+pub mod CopiesByPlace
+pub mod CopiesLaws
+pub mod CopiesWritten
+pub mod ContextBytes
+pub mod ContextNumbers
+pub mod Contexts

@@ -1,0 +1,6 @@
+pub mod Places
+pub mod Shapes
+pub mod Tables
+pub mod Copies
+pub mod Units
+pub mod Contexts

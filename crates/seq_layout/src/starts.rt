@@ -1,0 +1,187 @@
+// Where the parts of extents start in each memory.
+ghost use Rattle.std.specs.Prelude.{◌≡◌, ℕ, ◌+◌, ◌<◌, ◌≤◌, ◌^◌, length, slice_index, IfOk, MatchOption};
+ghost use Rattle.std.specs.List.Sorted.{IsNonDecreasing};
+ghost use Rattle.seq_layout.specs.Places.{memory_of, keeps, start_of, place_of, IsPlace};
+ghost use Rattle.seq_layout.specs.Tables.{Spread, IsRow, IsCount, IsPart};
+
+use crate::Extent;
+use seq_words::{Items, Me, NoMemory};
+use std::alloc::Global;
+use std::marker::Model;
+
+// Whether a memory keeps a copy of an extent.
+fn keeps(memories: u8, memory: u8, extent: usize) -> bool
+    requires enough { 2 ≤ memories }
+    requires small { extent < 2 ^ 32 }
+    ensures { result ≡ keeps memories memory extent }
+{
+    let count = memories as usize;
+    extent % count == memory as usize || (extent + 1) % count == memory as usize
+}
+
+// How much a memory keeps for the extents before this one.
+#[tactic(auto, using(crate::proofs::Apart::start_step, crate::proofs::Apart::start_first))]
+fn start_of(memories: u8, sizes: &[u32], memory: u8, extent: usize) -> u32
+    requires enough { 2 ≤ memories }
+    requires inside { extent ≤ length sizes.now }
+    requires small { length sizes.now < 2 ^ 32 }
+    requires fits { start_of memories sizes.now memory (length sizes.now) < 2 ^ 32 }
+    ensures { result ≡ start_of memories sizes.now memory extent }
+{
+    let mut total = 0;
+    for earlier in 0..extent {
+        if keeps(memories, memory, earlier) {
+            total += sizes[earlier];
+        }
+    }
+    total
+}
+
+// The starts of all extents in a memory, and after them how much it keeps of all.
+fn row_of(alloc: Global, memories: u8, sizes: &[u32], memory: u8) -> Result<Items<u32>, NoMemory>
+    requires enough { 2 ≤ memories }
+    requires small { length sizes.now < 2 ^ 32 }
+    requires fits { start_of memories sizes.now memory (length sizes.now) < 2 ^ 32 }
+    ensures { IfOk result (λ row. IsRow (record { memories = memories; sizes = sizes.now }) memory row) }
+{
+    let mut row = Items::new(alloc);
+    for extent in 0..=sizes.len() {
+        if row.push(start_of(memories, sizes, memory, extent)).is_err() {
+            return Err(NoMemory);
+        }
+    }
+    Ok(row)
+}
+
+// How many of the starts of a row are at this place or below it.
+fn count_up_to(starts: &[u32], place: u32) -> usize
+    requires { IsNonDecreasing starts.now }
+    ensures { IsCount starts.now place result }
+{
+    starts.partition_point(|start| *start <= place)
+}
+
+/// How many parts each extent has, and where they start in each memory.
+#[derive(Drop)]
+pub struct Starts {
+    memories: u8,
+    sizes: Items<u32>,
+    // by memory and extent, and at the end of each row how much the memory keeps
+    starts: Items<Items<u32>>,
+}
+
+impl Model for Starts {
+    ghost use Rattle.seq_layout.specs.Tables.{Spread, AreStarts};
+
+    ghost Value = { Spread };
+
+    ghost view = { λ s. record { memories = s.memories; sizes = s.sizes } };
+
+    ghost invariant = { λ s. AreStarts (record { memories = s.memories; sizes = s.sizes }) s.starts };
+}
+
+impl Starts {
+    /// The starts of extents of these sizes, with their copies on so many memories.
+    pub fn new(alloc: Global, memories: u8, sizes: Items<u32>) -> Result<Starts, NoMemory>
+        requires enough { 2 ≤ memories }
+        requires small { length sizes < 2 ^ 32 }
+        requires fits { (m : ℕ) → m < memories → start_of memories sizes m (length sizes) < 2 ^ 32 }
+        ensures { IfOk result (λ s. s ≡ record { memories = memories; sizes = sizes }) }
+    {
+        let mut starts = Items::new(alloc);
+        for memory in 0..memories {
+            let row = row_of(alloc, memories, sizes.as_slice(), memory)?;
+            if starts.push(row).is_err() {
+                return Err(NoMemory);
+            }
+        }
+        Ok(Starts {
+            memories,
+            sizes,
+            starts,
+        })
+    }
+
+    /// How many memories there are.
+    pub fn memories(&self) -> u8
+        ensures { result ≡ self.now.memories }
+    {
+        self.memories
+    }
+
+    /// How many extents there are.
+    pub fn extents(&self) -> usize
+        ensures { result ≡ length self.now.sizes }
+    {
+        self.sizes.len()
+    }
+
+    /// The memory of a copy of an extent.
+    pub fn memory(&self, extent: Extent, shadow: bool) -> Me
+        ensures memory { result.0 ≡ memory_of self.now.memories extent.0 shadow }
+        ensures within { result.0 < self.now.memories }
+    {
+        let memories = self.memories as u64;
+        let first = extent.0 as u64;
+        let memory = if shadow {
+            (first + 1) % memories
+        } else {
+            first % memories
+        };
+        Me(memory as u8)
+    }
+
+    // The starts of all extents in a memory, and after them how much it keeps of all.
+    fn row(&self, memory: Me) -> &[u32]
+        requires { memory.0 < self.now.memories }
+        ensures row { IsRow self.now memory.0 result.now }
+        ensures fits { start_of self.now.memories self.now.sizes memory.0 (length self.now.sizes) < 2 ^ 32 }
+        ensures few { length self.now.sizes < 2 ^ 32 }
+        ensures enough { 2 ≤ self.now.memories }
+    {
+        self.starts.at(memory.0 as usize).as_slice()
+    }
+
+    /// How many parts a memory keeps.
+    pub fn total(&self, memory: Me) -> u32
+        requires { memory.0 < self.now.memories }
+        ensures { result ≡ start_of self.now.memories self.now.sizes memory.0 (length self.now.sizes) }
+    {
+        let row = self.row(memory);
+        row[row.len() - 1]
+    }
+
+    /// The memory of a copy of an extent's `n`-th part, and the part's place there.
+    pub fn place(&self, extent: Extent, n: u32, shadow: bool) -> (Me, u32)
+        requires { IsPlace self.now.sizes extent.0 n }
+        ensures memory { result.0.0 ≡ memory_of self.now.memories extent.0 shadow }
+        ensures place { result.1 ≡ place_of self.now.memories self.now.sizes extent.0 n shadow }
+        ensures within { result.0.0 < self.now.memories }
+        ensures enough { 2 ≤ self.now.memories }
+    {
+        let memory = self.memory(extent, shadow);
+        (memory, self.row(memory)[extent.0 as usize] + n)
+    }
+
+    /// How many parts an extent has.
+    pub fn size(&self, extent: Extent) -> u32
+        requires { extent.0 < length self.now.sizes }
+        ensures { result ≡ slice_index self.now.sizes extent.0 }
+    {
+        self.sizes.get(extent.0 as usize)
+    }
+
+    /// The part at a place of a memory: its extent and its number there. None past the last part that the memory keeps.
+    pub fn part_at(&self, memory: Me, place: u32) -> Option<(Extent, u32)>
+        requires { memory.0 < self.now.memories }
+        ensures { MatchOption result (start_of self.now.memories self.now.sizes memory.0 (length self.now.sizes) ≤ place) (λ part. IsPart self.now memory.0 place part.0.0 part.1) }
+    {
+        let starts = self.row(memory);
+        let count = count_up_to(starts, place);
+        if count == starts.len() {
+            return None;
+        }
+        let extent = count - 1;
+        Some((Extent(extent as u32), place - starts[extent]))
+    }
+}
