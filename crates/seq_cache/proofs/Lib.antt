@@ -1,0 +1,4 @@
+pub mod Order
+pub mod Puts
+mod Found
+pub mod LawsHold

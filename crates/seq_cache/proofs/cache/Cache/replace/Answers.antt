@@ -1,0 +1,17 @@
+use Rattle.std.proofs.Common.{sym, subst}
+use Rattle.seq_cache.specs.Changes.{Changes}
+use Rattle.seq_cache.specs.Standing.{StandsAt}
+use Rattle.seq_cache.proofs.Found.{replaced_fits}
+use Rattle.seq_cache.proofs.cache.Cache.replace.Goals as goal
+
+pub invariant_of-self : goal.invariant_of-self
+invariant_of-self c =
+    let new = c.args.change in
+    let at = subst (λ (s : Changes). StandsAt s.changes new.extent.0 new.place c.args.at) (sym c.self.view_is) c.requires in
+    (replaced_fits _ _ _ _ _ new.block c.self.invariant.0 at, c.self.invariant.1)
+
+pub returns-clause-cache : goal.returns-clause-cache
+returns-clause-cache c =
+    let new = c.args.change in
+    let at = subst (λ (s : Changes). StandsAt s.changes new.extent.0 new.place c.args.at) (sym c.self.view_is) c.requires in
+    replaced_fits _ _ _ _ _ new.block c.self.invariant.0 at

@@ -1,0 +1,177 @@
+// The cache of a processor, as a sorted vector.
+ghost use Rattle.std.specs.Prelude.{◌≡◌, ℕ, ◌+◌, ◌<◌, ◌≤◌, ◌↔◌, ◌==◌, ◌&&◌, if◌then◌else◌, is_ok, is_some, [], length, slice_get, Some, None, IfOk, IfErr, OnOk, OnErr, IsTrue, IsErr};
+ghost use Rattle.std.specs.Option.{option_copied};
+ghost use Rattle.seq_layout.specs.Places.{IsPlace};
+ghost use Rattle.seq_layout.specs.Copies.{Matches, copies, IsServed};
+ghost use Rattle.seq_cache.specs.Changes.{IsCache, admits, changed, with_change};
+ghost use Rattle.seq_cache.specs.Standing.{StandsAt, IsGapFor};
+ghost use Rattle.seq_cache.specs.Overlay.{overlay};
+
+use crate::Change;
+use seq_layout::{Extent, Layout};
+use seq_memory::Memories;
+use seq_words::{Block, NoMemory};
+use std::alloc::Global;
+use std::marker::Model;
+
+/// The blocks that were changed since the last checkpoint, in ascending order of extent, then place.
+#[derive(Drop)]
+pub struct Cache {
+    capacity: u16,
+    // It has room for `capacity` changes from the start.
+    changes: Vec<Change>,
+}
+
+/// A block was refused: as many blocks are changed as there may be.
+#[derive(Clone, Copy, Debug, PartialEq, Eq)]
+pub struct Full {
+    /// How many blocks are changed.
+    pub changed: u32,
+    /// How many blocks may be.
+    pub capacity: u16,
+}
+
+impl Model for Cache {
+    ghost use Rattle.std.specs.Prelude.{◌≤◌, vec_capacity};
+    ghost use Rattle.seq_cache.specs.Changes.{Changes, IsCache};
+
+    ghost Value = { Changes };
+
+    ghost view = { λ c. record { capacity = c.capacity; changes = c.changes.items } };
+
+    ghost invariant = { λ c. IsCache (record { capacity = c.capacity; changes = c.changes.items }) × (c.capacity ≤ vec_capacity c.changes) };
+}
+
+impl Cache {
+    /// No block is changed, and at most `capacity` may be. It takes all the memory that the cache will ever need.
+    pub fn new(alloc: Global, capacity: u16) -> Result<Cache, NoMemory>
+        ensures { IfOk result (λ c. c ≡ record { capacity = capacity; changes = [] }) }
+    {
+        let Ok(changes) = Vec::with_capacity(alloc, usize::from(capacity)) else {
+            return Err(NoMemory);
+        };
+        Ok(Cache { capacity, changes })
+    }
+
+    /// How many blocks are changed.
+    pub fn dirty(&self) -> u32
+        ensures number { result ≡ length self.now.changes }
+        ensures cache { IsCache self.now }
+    {
+        self.changes.len() as u32
+    }
+
+    /// The change at a place of the ascending order.
+    pub fn dirty_at(&self, i: u32) -> &Change
+        requires { i < length self.now.changes }
+        ensures change { slice_get self.now.changes i ≡ Some result.now }
+        ensures block { changed self.now.changes result.now.extent.0 result.now.place ≡ Some result.now.block }
+        ensures cache { IsCache self.now }
+    {
+        &self.changes[i as usize]
+    }
+
+    /// What a block was changed to.
+    pub fn find(&self, extent: Extent, n: u32) -> Option<&Block>
+        ensures { option_copied result ≡ changed self.now.changes extent.0 n }
+    {
+        match self.search(extent, n) {
+            Ok(at) => Some(&self.changes[at].block),
+            Err(_) => None,
+        }
+    }
+
+    /// A block as the processor sees it: what it was changed to, else what its first copy holds.
+    #[tactic(auto, unfolding(crate::specs::Overlay::overlay))]
+    pub fn read(&self, extent: Extent, n: u32, memories: &Memories, layout: &Layout) -> Block
+        requires matches { Matches layout.now memories.now }
+        requires place { IsPlace layout.now.blocks extent.0 n }
+        requires served { IsServed layout.now (copies layout.now memories.now) extent.0 }
+        ensures { result ≡ overlay layout.now (copies layout.now memories.now) self.now.changes extent.0 n }
+    {
+        match self.find(extent, n) {
+            Some(block) => *block,
+            None => *layout.first_block(memories, extent, n),
+        }
+    }
+
+    /// Whether so many further blocks may be changed.
+    pub fn room(&self, needed: u32) -> bool
+        ensures { IsTrue result ↔ (length self.now.changes + needed ≤ self.now.capacity) }
+    {
+        needed <= u32::from(self.capacity) - self.dirty()
+    }
+
+    /// Whether a block may be written: it is changed already, or there is room for one more.
+    pub fn admits(&self, extent: Extent, n: u32) -> bool
+        ensures { result ≡ admits self.now extent.0 n }
+    {
+        self.search(extent, n).is_ok() || self.room(1)
+    }
+
+    /// Changes a block. It is refused where the block isn't changed yet and as many are as may be.
+    #[tactic(auto, using(crate::proofs::LawsHold::put_changes_one_block))]
+    pub fn write(&mut self, extent: Extent, n: u32, block: &Block) -> Result<(), Full>
+        ensures admitted { is_ok result ≡ admits self.old extent.0 n }
+        ensures refused { IsErr result ↔ ((changed self.old.changes extent.0 n ≡ None) × (length self.old.changes ≡ self.old.capacity)) }
+        ensures ok { OnOk result (self.new ≡ with_change self.old extent.0 n block.now) }
+        ensures reads { OnOk result ((e n' : ℕ) → changed self.new.changes e n' ≡ (if e == extent.0 && n' == n then Some block.now else changed self.old.changes e n')) }
+        ensures full { IfErr result (λ f. f ≡ record { changed = length self.old.changes; capacity = self.old.capacity }) }
+        ensures unchanged { OnErr result (self.new ≡ self.old) }
+        ensures cache { IsCache self.new }
+    {
+        let change = Change {
+            extent,
+            place: n,
+            block: *block,
+        };
+        match self.search(extent, n) {
+            Ok(at) => self.replace(at, change),
+            Err(at) if self.room(1) => self.insert(at, change),
+            Err(_) => {
+                return Err(Full {
+                    changed: self.dirty(),
+                    capacity: self.capacity,
+                });
+            }
+        }
+        Ok(())
+    }
+
+    /// No block is changed any more.
+    pub fn clear(&mut self)
+        ensures { self.new ≡ record self.old { changes = [] } }
+    {
+        self.changes.clear();
+    }
+
+    // Where the change of a block stands, or else where it would stand.
+    fn search(&self, extent: Extent, n: u32) -> Result<usize, usize>
+        ensures variant { is_ok result ≡ is_some (changed self.now.changes extent.0 n) }
+        ensures found { IfOk result (StandsAt self.now.changes extent.0 n) }
+        ensures absent { IfErr result (IsGapFor self.now.changes extent.0 n) }
+    {
+        self.changes
+            .binary_search_by_key(&(extent.0, n), |change| (change.extent.0, change.place))
+    }
+
+    // Puts a change in place of the one of its block.
+    fn replace(&mut self, at: usize, change: Change)
+        requires { StandsAt self.old.changes change.extent.0 change.place at }
+        ensures after { self.new ≡ with_change self.old change.extent.0 change.place change.block }
+        ensures cache { IsCache self.new }
+    {
+        self.changes[at] = change;
+    }
+
+    // Puts in the change of a further block. There is room for it, so it takes no memory.
+    #[tactic(auto, using(crate::proofs::Found::inserted_fits))]
+    fn insert(&mut self, at: usize, change: Change)
+        requires gap { IsGapFor self.old.changes change.extent.0 change.place at }
+        requires room { length self.old.changes < self.old.capacity }
+        ensures after { self.new ≡ with_change self.old change.extent.0 change.place change.block }
+        ensures cache { IsCache self.new }
+    {
+        self.changes.insert(at, change).unwrap();
+    }
+}
