@@ -1,0 +1,4 @@
+pub mod Numbered
+pub mod Standing
+pub mod Known
+pub mod LawsHold

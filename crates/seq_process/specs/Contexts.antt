@@ -1,0 +1,55 @@
+-- A process that runs, and its context.
+use Rattle.std.specs.Prelude.{ℕ, ◌+◌, ◌==◌, if◌then◌else◌, None}
+use Rattle.seq_words.specs.declared.names.Pid.{Pid}
+use Rattle.seq_words.specs.declared.regs.Regs.{Regs}
+use Rattle.seq_flat.specs.declared.state.End.{End}
+use Rattle.seq_flat.specs.declared.state.End.TheVariants.{Live, Exited, Trapped}
+use Rattle.seq_layout.specs.declared.context.Context.{Context}
+use Rattle.seq_process.specs.declared.running.Running.{Running}
+
+-- how the process of a context stands
+abbrev pub end_of : Context → End
+end_of c = if c.end == 0 then Live else if c.end == 1 then Exited c.value else Trapped c.value c.end_pc
+
+-- the three numbers by which a context says it
+abbrev pub end_kind : End → ℕ
+end_kind Live = 0
+end_kind (Exited code) = 1
+end_kind (Trapped cause pc) = 2
+
+abbrev pub end_value : End → ℕ
+end_value Live = 0
+end_value (Exited code) = code
+end_value (Trapped cause pc) = cause
+
+abbrev pub end_pc : End → ℕ
+end_pc Live = 0
+end_pc (Exited code) = 0
+end_pc (Trapped cause pc) = pc
+
+-- what a processor has of a process when it takes it up from its context
+abbrev pub started : Pid → Context → Running
+started pid c = record {
+  pid = pid;
+  pair = record { a = c.regs; b = c.regs; struck = None };
+  held = c.held;
+  end = end_of c;
+  reads = c.reads;
+  writes = c.writes;
+  commits = c.commits;
+  steps = 0;
+  used = 0;
+}
+
+-- the context of a process with these registers, with one commit more
+abbrev pub saved : Running → Regs → Context
+saved r regs = record {
+  regs = regs;
+  end = end_kind r.end;
+  value = end_value r.end;
+  end_pc = end_pc r.end;
+  held = r.held;
+  commits = r.commits + 1;
+  reads = r.reads;
+  writes = r.writes;
+}
