@@ -69,6 +69,7 @@ impl Claim<Primary> {
         ensures state { result ≡ (claim_primary layout.now (copies layout.now memories.old) self).state }
         ensures copies { copies layout.now memories.new ≡ (claim_primary layout.now (copies layout.now memories.old) self).copies }
         ensures matches { Matches layout.now memories.new }
+        ensures next { (c : _) → result ≡ Claimed.Got c → c ≡ record { at = self.at; value = self.value; stage = record {} } }
         ensures holds { (c : _) → result ≡ Claimed.Got c → Holds layout.now (copies layout.now memories.new) self.at false self.value }
         ensures refused { (v : _) → (result ≡ Claimed.Refused v) ↔ ((is_taken layout.now (copies layout.now memories.old) self.at false ≡ true) × (v ≡ word_at (copies layout.now memories.old) self.at false)) }
         ensures taken { (v : _) → result ≡ Claimed.Refused v → v ≢ 0 }

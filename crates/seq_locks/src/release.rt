@@ -30,6 +30,7 @@ impl Release<Shadow> {
         requires matches { Matches layout.now memories.old }
         requires place { IsPlace layout.now.words self.at.extent.0 self.at.word }
         ensures state { result ≡ (release_shadow layout.now (copies layout.now memories.old) self).state }
+        ensures next { result ≡ record { at = self.at; stage = record {} } }
         ensures copies { copies layout.now memories.new ≡ (release_shadow layout.now (copies layout.now memories.old) self).copies }
         ensures matches { Matches layout.now memories.new }
         ensures freed { Holds layout.now (copies layout.now memories.new) self.at true 0 }
