@@ -26,3 +26,9 @@ pub mod ViewBytes
 pub mod ViewSeen
 pub mod ViewStores
 pub mod CallCases
+pub mod KeptRunning
+pub mod KeptRegisters
+pub mod KeptCache
+pub mod KeptCalls
+pub mod KeptSteps
+pub mod CallMachines

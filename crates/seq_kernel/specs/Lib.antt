@@ -6,3 +6,4 @@ pub mod Steps
 pub mod Bounds
 pub mod Shown
 pub mod Refinement
+pub mod Kept

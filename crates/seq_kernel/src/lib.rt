@@ -9,7 +9,13 @@ mod steps;
 mod view;
 
 pub use calls::call;
-pub use laws::{grants_are_flat, steps_are_flat};
+pub use laws::{
+    grants_are_flat, grants_keep_bounds, own_blocks_are_beside, steps_are_flat, steps_keep_bounds,
+    steps_keep_cache,
+};
 pub use outcomes::{Cause, Note, Outcome, Reason};
 pub use steps::{grant, step};
 pub use view::View;
+
+#[cfg(test)]
+mod tests;

@@ -25,6 +25,7 @@ const BLOCK: u32 = 32;
 pub struct View<'a> {
     pub desc: &'a MachineDesc,
     pub pid: Pid,
+    /// The segments that it holds: bit s stands for segment s.
     pub held: u16,
     pub cache: &'a mut Cache,
     pub memories: &'a Memories,

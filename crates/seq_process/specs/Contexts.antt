@@ -1,9 +1,10 @@
 -- A process that runs, and its context.
-use Rattle.std.specs.Prelude.{ℕ, ◌+◌, ◌==◌, if◌then◌else◌, None}
+use Rattle.std.specs.Prelude.{◌≡◌, ℕ, ◌+◌, ◌%◌, ◌==◌, if◌then◌else◌, None, slice_index}
 use Rattle.seq_words.specs.declared.names.Pid.{Pid}
 use Rattle.seq_words.specs.declared.regs.Regs.{Regs}
 use Rattle.seq_flat.specs.declared.state.End.{End}
 use Rattle.seq_flat.specs.declared.state.End.TheVariants.{Live, Exited, Trapped}
+use Rattle.seq_layout.specs.Contexts.{IsContext}
 use Rattle.seq_layout.specs.declared.context.Context.{Context}
 use Rattle.seq_process.specs.declared.running.Running.{Running}
 
@@ -53,3 +54,7 @@ saved r regs = record {
   reads = r.reads;
   writes = r.writes;
 }
+
+-- A saved context is inside the format, with registers of which x0 is 0 and pc is a multiple of four.
+abbrev pub SavedIsInside : Type 0
+SavedIsInside = (r : Running) (regs : Regs) → slice_index regs.x 0 ≡ 0 → regs.pc % 4 ≡ 0 → IsContext (saved r regs)

@@ -2,9 +2,11 @@
 #![tactic(auto)]
 
 mod contexts;
+mod laws;
 mod running;
 
 pub use contexts::{load, next_cursor, save};
+pub use laws::saved_is_inside;
 pub use running::Running;
 
 #[cfg(test)]
