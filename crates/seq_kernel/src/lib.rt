@@ -18,4 +18,6 @@ pub use steps::{grant, step};
 pub use view::View;
 
 #[cfg(test)]
+mod step_tests;
+#[cfg(test)]
 mod tests;

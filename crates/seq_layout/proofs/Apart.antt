@@ -1,8 +1,10 @@
 -- Two copies of parts that stand at one place are the same copy of the same part.
 use Rattle.std.proofs.Common.{cond, length, ◌≡◌, ℕ, zero, suc, ◌+◌, ◌%◌, ◌<◌, ◌≤◌, Bool, true, false, List, get_or, arith, refl, ◌*◌, ◌/◌, inl, inr, sym, subst, ap}
+use Rattle.std.specs.Prelude.{if◌then◌else◌, ◌==◌}
+use Rattle.std.proofs.Math.Nat.{suc-mod, mod_self, mod-eq_of_lt}
 use Rattle.std.proofs.lemmas.Nat.{div-add-mod', mul-le, mod_below}
 use Rattle.std.proofs.lemmas.Bool.Decides.{nat_tests}
-use Rattle.std.proofs.lemmas.Bool.{cases_order, cases_lt, cases_eq}
+use Rattle.std.proofs.lemmas.Bool.{cases_order, cases_lt, cases_eq, eq-eqb, ne_eqb}
 use Rattle.seq_layout.specs.Places.{memory_of, keeps, start_of, place_of, IsPlace, IsSamePart, AreApart}
 
 -- the starts rise
@@ -101,3 +103,18 @@ place_fits m sizes k e n c top p here below =
 -- the size of an extent that is kept can be added to its start
 pub start_adds : (m : ℕ) (sizes : List ℕ) (k i j top : ℕ) → keeps m k i ≡ true → i < j → start_of m sizes k j < top → start_of m sizes k i + get_or sizes i 0 < top
 start_adds m sizes k i j top kept less below = omega (arith, ends_before m sizes k i j kept less)
+
+-- the memory after that of an extent's primary is its shadow's
+pub next_memory : (e m : ℕ) → (e % m + 1) % m ≡ (e + 1) % m
+next_memory e m =
+    let one : e % m + 1 ≡ suc (e % m) = omega arith in
+    let next : e + 1 ≡ suc e = omega arith in
+    rw (one, next) (sym (suc-mod e m))
+
+-- a memory after another one, where there are more, and where there is none
+pub wrapped : (k m : ℕ) → k < m → (k + 1) % m ≡ (if k + 1 == m then 0 else k + 1)
+wrapped k m below =
+    elim (cases_eq (k + 1) m) [
+      | inl last ↦ rw last (rw (eq-eqb m m refl) (mod_self m))
+      | inr more ↦ rw (ne_eqb (k + 1) m more) (mod-eq_of_lt (omega (arith, more)))
+    ]

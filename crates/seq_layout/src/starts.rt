@@ -1,5 +1,5 @@
 // Where the parts of extents start in each memory.
-ghost use Rattle.std.specs.Prelude.{◌≡◌, ℕ, ◌+◌, ◌<◌, ◌≤◌, ◌^◌, length, slice_index, IfOk, MatchOption};
+ghost use Rattle.std.specs.Prelude.{◌≡◌, ℕ, ◌+◌, ◌%◌, ◌<◌, ◌≤◌, ◌^◌, length, slice_index, IfOk, MatchOption};
 ghost use Rattle.std.specs.List.Sorted.{IsNonDecreasing};
 ghost use Rattle.seq_layout.specs.Places.{memory_of, keeps, start_of, place_of, IsPlace};
 ghost use Rattle.seq_layout.specs.Tables.{Spread, IsRow, IsCount, IsPart};
@@ -8,6 +8,19 @@ use crate::Extent;
 use seq_words::{Items, Me, NoMemory};
 use std::alloc::Global;
 use std::marker::Model;
+
+// The memory after another one, cyclically.
+#[tactic(auto, using(crate::proofs::Apart::wrapped))]
+fn memory_after(memory: u32, memories: u32) -> u32
+    requires { memory < memories }
+    ensures { result ≡ (memory + 1) % memories }
+{
+    if memory + 1 == memories {
+        0
+    } else {
+        memory + 1
+    }
+}
 
 // Whether a memory keeps a copy of an extent.
 fn keeps(memories: u8, memory: u8, extent: usize) -> bool
@@ -117,16 +130,17 @@ impl Starts {
     }
 
     /// The memory of a copy of an extent.
+    #[tactic(auto, using(crate::proofs::Apart::next_memory))]
     pub fn memory(&self, extent: Extent, shadow: bool) -> Me
         ensures memory { result.0 ≡ memory_of self.now.memories extent.0 shadow }
         ensures within { result.0 < self.now.memories }
     {
-        let memories = self.memories as u64;
-        let first = extent.0 as u64;
+        let memories = self.memories as u32;
+        let primary = extent.0 % memories;
         let memory = if shadow {
-            (first + 1) % memories
+            memory_after(primary, memories)
         } else {
-            first % memories
+            primary
         };
         Me(memory as u8)
     }
