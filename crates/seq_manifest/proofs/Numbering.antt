@@ -43,6 +43,14 @@ pub line_count-is : (segments : ℕ) (qs : List ProcessDesc) → AllByRecursion 
 unfolding numbers_in
 line_count-is segments qs h = sum-ones segments qs h ∙ bits_by_line qs 0 16
 
+each_once : (f : ℕ → ℕ) (lo n : ℕ) → ((l : ℕ) → f l ≤ 1) → sum_by f (range_with_len lo n) ≤ n
+each_once f lo zero once = omega arith
+each_once f lo (suc n) once = let rest = each_once f (lo + 1) n once in omega (arith, sum_by-cons f lo (range_with_len (lo + 1) n), once lo, rest)
+
+-- sixteen lines at most, where no line has two owners
+pub lines_few : (segments : ℕ) (qs : List ProcessDesc) → AllByRecursion (IsProcessDraft segments) qs → ((l : ℕ) → owners qs l ≤ 1) → sum_by (λ q. count_ones q.lines) qs ≤ 16
+lines_few segments qs h apart = omega (arith, line_count-is segments qs h, each_once (owners qs) 0 16 apart)
+
 -- ---- one owner at most
 pub some_owner : (qs : List ProcessDesc) (l : ℕ) → list_any (λ q. has_bit q.lines l) qs ≡ true → 1 ≤ owners qs l
 some_owner [] l e = absurd (false≢true e)

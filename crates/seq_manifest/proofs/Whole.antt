@@ -14,7 +14,7 @@ use Rattle.seq_manifest.specs.Taking.{IsParts}
 use Rattle.seq_manifest.proofs.Saying.{owned-said_by}
 use Rattle.seq_manifest.proofs.Below.{some_below-from}
 use Rattle.seq_manifest.proofs.Texts.{IsEnded-from, IsReading, reading_says}
-use Rattle.seq_manifest.proofs.Numbering.{numbered}
+use Rattle.seq_manifest.proofs.Numbering.{lines_few, numbered}
 
 between-from : (least most unit n : ℕ) → is_within least most unit n ≡ true → IsBetween least most n
 between-from least most unit n e = let p = and_parts _ _ (and_parts _ _ e).0 in record { low_at = leb-true _ _ p.0; high_at = leb-true _ _ p.1 }
@@ -60,6 +60,7 @@ draft_of_parts d parts none =
       each_process = All-from_recursion (IsProcessDraft (length d.desc.segments)) d.desc.processes parts.each_process;
       images = parts.images;
       each_image = All-from_recursion (λ name. is_file name ≡ true) d.images parts.each_image;
+      few_lines = lines_few (length d.desc.segments) d.desc.processes parts.each_process parts.apart;
       lines = numbered (length d.desc.segments) d.desc.processes parts.each_process parts.apart (no_gap (parts_of d) parts ended.no_gap);
     }
 

@@ -59,7 +59,7 @@ pub record IsProcessDraft (segments : ℕ) (p : ProcessDesc) : Type 0 where
   pub few : count_ones p.lines ≤ 4
   pub granted : (s : ℕ) → has_bit p.grants s ≡ true → s < segments
 
--- a draft: all numbers are within their limits, and the lines are numbered from 0 on and have one owner each
+-- a draft: all numbers are within their limits, and the lines, 16 at most, are numbered from 0 on and have one owner each
 pub record IsDraft (d : Draft) : Type 0 where
   pub processors : IsBetween 1 8 d.desc.processors
   pub memories : IsBetween 2 8 d.desc.memories
@@ -75,6 +75,7 @@ pub record IsDraft (d : Draft) : Type 0 where
   pub each_process : All (IsProcessDraft (length d.desc.segments)) d.desc.processes
   pub images : length d.images ≡ length d.desc.processes
   pub each_image : All (λ name. is_file name ≡ true) d.images
+  pub few_lines : line_count d.desc ≤ 16
   pub lines : (l : ℕ) → owner_count d.desc l ≡ (if nat_lt l (line_count d.desc) then 1 else 0)
 
 -- the words of each line that isn't passed over

@@ -2,6 +2,8 @@ ghost use Rattle.std.specs.Prelude.{◌≡◌, ◌<◌};
 ghost use Rattle.seq_manifest.specs.Statements.{heading_named};
 ghost use Rattle.seq_manifest.specs.Faults.{place_of, is_within, is_allowed};
 
+use seq_words::{MOST_IOS, MOST_MEMORIES, MOST_PROCESSORS};
+
 /// One of the seven first lines.
 #[derive(Clone, Copy)]
 pub enum Heading {
@@ -66,9 +68,9 @@ pub fn is_allowed(heading: Heading, number: u64) -> bool
 {
     match heading {
         Heading::Version => is_within(1, 1, 1, number),
-        Heading::Processors => is_within(1, 8, 1, number),
-        Heading::Memories => is_within(2, 8, 1, number),
-        Heading::Ios => is_within(1, 4, 1, number),
+        Heading::Processors => is_within(1, MOST_PROCESSORS as u64, 1, number),
+        Heading::Memories => is_within(2, MOST_MEMORIES as u64, 1, number),
+        Heading::Ios => is_within(1, MOST_IOS as u64, 1, number),
         Heading::Cache => is_within(16, 256, 1, number),
         Heading::Quantum => is_within(1, 10_000, 1, number),
         Heading::Journal => is_within(32, 65_536, 32, number),

@@ -1,9 +1,23 @@
--- Which descriptions describe a machine.
-use Rattle.std.specs.Prelude.{◌≡◌, ◌≤◌, ◌<◌, ◌%◌, ℕ, Bool, true, List, length, All, count_by, sum_by, count_ones, if◌then◌else◌, nat_lt}
+-- Which descriptions describe a machine, and what stands in one.
+use Rattle.std.specs.Prelude.{◌≡◌, ◌≤◌, ◌<◌, ◌%◌, ℕ, Bool, true, List, [], length, All, count_by, sum_by, count_ones, if◌then◌else◌, nat_lt, slice_index_or}
 use Rattle.seq_words.specs.Masks.{has_bit}
 use Rattle.seq_words.specs.declared.description.MachineDesc.{MachineDesc}
 use Rattle.seq_words.specs.declared.description.SegmentDesc.{SegmentDesc}
 use Rattle.seq_words.specs.declared.description.ProcessDesc.{ProcessDesc}
+
+-- what stands where there is no such process or segment
+abbrev pub no_process : ProcessDesc
+no_process = record { size = 0; entry = 0; image = []; lines = 0; grants = 0 }
+
+abbrev pub no_segment : SegmentDesc
+no_segment = record { size = 0; first = [] }
+
+-- process p, and segment s, of a description
+abbrev pub process_of : MachineDesc → ℕ → ProcessDesc
+process_of d p = slice_index_or d.processes p no_process
+
+abbrev pub segment_of : MachineDesc → ℕ → SegmentDesc
+segment_of d s = slice_index_or d.segments s no_segment
 
 -- from the first number to the second, both included
 pub record IsBetween (low high n : ℕ) : Type 0 where
@@ -37,7 +51,7 @@ line_count d = sum_by (λ p. count_ones p.lines) d.processes
 abbrev pub owner_count : MachineDesc → ℕ → ℕ
 owner_count d l = count_by (λ p. has_bit p.lines l) d.processes
 
--- All numbers are within their limits, and the lines are numbered from 0 on and have one owner each.
+-- All numbers are within their limits, and the lines, 16 at most, are numbered from 0 on and have one owner each.
 pub record IsDescription (d : MachineDesc) : Type 0 where
   pub processors : IsBetween 1 8 d.processors
   pub memories : IsBetween 2 8 d.memories
@@ -49,4 +63,5 @@ pub record IsDescription (d : MachineDesc) : Type 0 where
   pub each_segment : All IsSegment d.segments
   pub processes : IsBetween 1 16 (length d.processes)
   pub each_process : All (IsProcess (length d.segments)) d.processes
+  pub few_lines : line_count d ≤ 16
   pub lines : (l : ℕ) → owner_count d l ≡ (if nat_lt l (line_count d) then 1 else 0)

@@ -2,3 +2,4 @@ pub mod Lending
 pub mod Blocks
 pub mod Masks
 pub mod Description
+pub mod Names

@@ -1,4 +1,4 @@
-use crate::{Ioe, Pe, Pid};
+use crate::{Element, Half, Ioe, LineNo, Pe, Pid};
 
 /// One event of a schedule, the atomic step of a machine.
 #[derive(Clone, Copy, Debug, PartialEq, Eq)]
@@ -7,6 +7,18 @@ pub enum Event {
     Processor(Pe),
     /// A turn of an I/O element.
     Io(Ioe),
+    /// A byte arrives on the line.
+    Input(LineNo, u8),
+    /// No further byte will arrive on the line.
+    Close(LineNo),
+    /// The element stops.
+    Fail(Element),
+    /// The element, which stopped, is put to work again.
+    Repair(Element),
+    /// The bits of a register of one half are inverted where the mask has a one: 1 to 31 for x1 to x31, 32 for the pc.
+    Upset(Pe, Half, u8, u32),
+    /// Nothing is sent on the line any more.
+    Hangup(LineNo),
 }
 
 /// An entry of a history: the process `pid` takes `count` steps.

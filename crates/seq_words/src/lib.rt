@@ -9,7 +9,9 @@ mod elements;
 mod events;
 mod half;
 mod items;
+mod kinds;
 mod masks;
+mod named;
 mod names;
 mod regs;
 
@@ -20,7 +22,11 @@ pub use elements::Me;
 pub use events::{Entry, Event, ReadError};
 pub use half::Half;
 pub use items::Items;
+pub use kinds::{Blocker, Element};
 pub use masks::has_bit;
+pub use named::{
+    MOST_IOS, MOST_MEMORIES, MOST_PROCESSORS, element_name, element_named, half_named,
+};
 pub use names::{Ioe, LineNo, Pe, Pid, Seg};
 pub use regs::Regs;
 

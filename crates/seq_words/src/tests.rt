@@ -38,3 +38,26 @@ fn bits_of_masks(rt: HostRuntime) {
         assert_eq!(rt; has_bit(mask, at), wanted, "{mask} {at}");
     }
 }
+
+#[test]
+fn names_of_elements(rt: HostRuntime) {
+    for (word, wanted) in [
+        (b"p0".as_slice(), Some(Element::Processor(Pe(0)))),
+        (b"p7".as_slice(), Some(Element::Processor(Pe(7)))),
+        (b"p8".as_slice(), None),
+        (b"m7".as_slice(), Some(Element::Memory(Me(7)))),
+        (b"m8".as_slice(), None),
+        (b"i3".as_slice(), Some(Element::Io(Ioe(3)))),
+        (b"i4".as_slice(), None),
+        (b"P0".as_slice(), None),
+        (b"p".as_slice(), None),
+        (b"p00".as_slice(), None),
+        (b"p/".as_slice(), None),
+        (b"p:".as_slice(), None),
+    ] {
+        assert_eq!(rt; element_named(word), wanted, "{:?}", word);
+    }
+    assert_eq!(rt; element_name(Element::Memory(Me(7))), *b"m7");
+    assert_eq!(rt; half_named(b"b"), Some(Half::B));
+    assert_eq!(rt; half_named(b"B"), None);
+}
