@@ -2,3 +2,4 @@ pub mod Order
 pub mod Puts
 mod Found
 pub mod LawsHold
+pub mod ReadsHold

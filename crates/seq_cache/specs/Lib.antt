@@ -1,4 +1,5 @@
 pub mod Changes
 pub mod Standing
 pub mod Overlay
+pub mod Reads
 pub mod Laws

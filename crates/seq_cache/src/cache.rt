@@ -1,6 +1,7 @@
 // The cache of a processor, as a sorted vector.
-ghost use Rattle.std.specs.Prelude.{◌≡◌, ℕ, ◌+◌, ◌<◌, ◌≤◌, ◌↔◌, ◌==◌, ◌&&◌, if◌then◌else◌, is_ok, is_some, [], length, slice_get, Some, None, IfOk, IfErr, OnOk, OnErr, IsTrue, IsErr};
+ghost use Rattle.std.specs.Prelude.{◌≡◌, ℕ, ◌+◌, ◌<◌, ◌≤◌, ◌↔◌, ◌==◌, ◌&&◌, if◌then◌else◌, is_ok, is_some, [], insert, length, slice_get, slice_set, vec_len, vec_capacity, Some, None, IfOk, IfErr, IfSome, OnOk, OnErr, IsTrue, IsErr};
 ghost use Rattle.std.specs.Option.{option_copied};
+ghost use Rattle.std.specs.Vec.{SameBlock};
 ghost use Rattle.seq_layout.specs.Places.{IsPlace};
 ghost use Rattle.seq_layout.specs.Copies.{Matches, copies, IsServed};
 ghost use Rattle.seq_cache.specs.Changes.{IsCache, admits, changed, with_change};
@@ -42,6 +43,38 @@ impl Model for Cache {
     ghost invariant = { λ c. IsCache (record { capacity = c.capacity; changes = c.changes.items }) × (c.capacity ≤ vec_capacity c.changes) };
 }
 
+// The length of a block's bytes, which a clause learns only where they are passed.
+fn all_bytes(bytes: &[u8; 32])
+    ensures { length bytes.now ≡ 32 }
+{}
+
+// Puts a change in place of another. The vector stays in its block of memory.
+fn set_in_place(changes: &mut Vec<Change>, at: usize, change: Change)
+    requires { at < vec_len changes.old }
+    ensures items { changes.new.items ≡ slice_set changes.old.items at change }
+    ensures in_place { SameBlock changes.old changes.new }
+{
+    changes[at] = change;
+}
+
+// Puts a further change in, where there is room for it. The vector stays in its block of memory.
+fn insert_in_place(changes: &mut Vec<Change>, at: usize, change: Change)
+    requires place { at ≤ vec_len changes.old }
+    requires room { vec_len changes.old < vec_capacity changes.old }
+    ensures items { changes.new.items ≡ insert changes.old.items at change }
+    ensures in_place { SameBlock changes.old changes.new }
+{
+    changes.insert(at, change).unwrap();
+}
+
+// Takes all changes out. The vector keeps its room.
+fn clear_in_place(changes: &mut Vec<Change>)
+    ensures items { changes.new.items ≡ [] }
+    ensures room { vec_capacity changes.new ≡ vec_capacity changes.old }
+{
+    changes.clear();
+}
+
 impl Cache {
     /// No block is changed, and at most `capacity` may be. It takes all the memory that the cache will ever need.
     pub fn new(alloc: Global, capacity: u16) -> Result<Cache, NoMemory>
@@ -66,17 +99,25 @@ impl Cache {
         requires { i < length self.now.changes }
         ensures change { slice_get self.now.changes i ≡ Some result.now }
         ensures block { changed self.now.changes result.now.extent.0 result.now.place ≡ Some result.now.block }
+        ensures whole { length result.now.block.bytes ≡ 32 }
         ensures cache { IsCache self.now }
     {
-        &self.changes[i as usize]
+        let change = &self.changes[i as usize];
+        all_bytes(&change.block.bytes);
+        change
     }
 
     /// What a block was changed to.
     pub fn find(&self, extent: Extent, n: u32) -> Option<&Block>
-        ensures { option_copied result ≡ changed self.now.changes extent.0 n }
+        ensures found { option_copied result ≡ changed self.now.changes extent.0 n }
+        ensures whole { IfSome result (λ block. length block.now.bytes ≡ 32) }
     {
         match self.search(extent, n) {
-            Ok(at) => Some(&self.changes[at].block),
+            Ok(at) => {
+                let block = &self.changes[at].block;
+                all_bytes(&block.bytes);
+                Some(block)
+            }
             Err(_) => None,
         }
     }
@@ -87,7 +128,8 @@ impl Cache {
         requires matches { Matches layout.now memories.now }
         requires place { IsPlace layout.now.blocks extent.0 n }
         requires served { IsServed layout.now (copies layout.now memories.now) extent.0 }
-        ensures { result ≡ overlay layout.now (copies layout.now memories.now) self.now.changes extent.0 n }
+        ensures value { result ≡ overlay layout.now (copies layout.now memories.now) self.now.changes extent.0 n }
+        ensures whole { length result.bytes ≡ 32 }
     {
         match self.find(extent, n) {
             Some(block) => *block,
@@ -142,7 +184,7 @@ impl Cache {
     pub fn clear(&mut self)
         ensures { self.new ≡ record self.old { changes = [] } }
     {
-        self.changes.clear();
+        clear_in_place(&mut self.changes);
     }
 
     // Where the change of a block stands, or else where it would stand.
@@ -161,17 +203,16 @@ impl Cache {
         ensures after { self.new ≡ with_change self.old change.extent.0 change.place change.block }
         ensures cache { IsCache self.new }
     {
-        self.changes[at] = change;
+        set_in_place(&mut self.changes, at, change);
     }
 
     // Puts in the change of a further block. There is room for it, so it takes no memory.
-    #[tactic(auto, using(crate::proofs::Found::inserted_fits))]
     fn insert(&mut self, at: usize, change: Change)
         requires gap { IsGapFor self.old.changes change.extent.0 change.place at }
         requires room { length self.old.changes < self.old.capacity }
         ensures after { self.new ≡ with_change self.old change.extent.0 change.place change.block }
         ensures cache { IsCache self.new }
     {
-        self.changes.insert(at, change).unwrap();
+        insert_in_place(&mut self.changes, at, change);
     }
 }

@@ -55,7 +55,7 @@ same_numbers m n same is =
 pub inside : (c : Context) → length c.regs.x ≡ 32 → c.held < 2 ^ 16 → IsContext c → IsContextBlocks (blocks_of (numbers_of c))
 inside c full held is = same_numbers _ _ (λ i within. sym (numbers_held (numbers_of c) i within)) (inside_numbers c full held is)
 
-below_four : (P : ℕ → Type 0) → P 0 → P 1 → P 2 → P 3 → (k : ℕ) → k < 4 → P k
+pub below_four : (P : ℕ → Type 0) → P 0 → P 1 → P 2 → P 3 → (k : ℕ) → k < 4 → P k
 below_four P a b c d zero within = a
 below_four P a b c d (suc zero) within = b
 below_four P a b c d (suc (suc zero)) within = c

@@ -12,9 +12,9 @@ use Rattle.seq_memory.specs.declared.element.MemoryElement.{MemoryElement}
 use Rattle.seq_memory.specs.declared.element.Memories.{Memories}
 use Rattle.seq_layout.specs.Places.{memory_of, place_of, IsPlace}
 use Rattle.seq_layout.specs.Shapes.{Shape}
-use Rattle.seq_layout.specs.Copies.{no_element, element_of, copies, state_of, Matches, with_block, with_word, failed}
+use Rattle.seq_layout.specs.Copies.{no_element, element_of, copies, state_of, Matches, with_block, with_word, with_state, failed}
 use Rattle.seq_layout.proofs.CopiesPlaces.{test_of_place}
-use Rattle.seq_layout.proofs.CopiesElements.{with_element, block_fits, word_fits, block_set, word_set, matches_after, all_lost, failed_matches}
+use Rattle.seq_layout.proofs.CopiesElements.{with_element, block_fits, word_fits, block_set, word_set, matches_after, state_set, state_matches, all_lost, failed_matches}
 
 -- an element in service isn't down
 pub serving_is_up : (s : State) → is_in_service s ≡ true → s ≢ Down
@@ -70,7 +70,7 @@ module _ (s : Shape) (m : Memories) (e : ℕ) (c : Bool) (k : ℕ) (here : k ≡
     pub words_matches : (w : ℕ) → Matches s (with_element m k (record element { words = set element.words at w }))
     words_matches w = matches_after s m k _ matches within (rw (element_is, ← here) refl) (rw (length-set, element_is, ← here) refl)
 
--- the element of a memory fails
+-- the element of a memory fails, or its state is changed
 module _ (s : Shape) (m : Memories) (k : ℕ) (matches : Matches s m) (within : k < s.memories) (element : MemoryElement) (found : slice_get m.elements k ≡ Some element) where
   found_is : element ≡ element_of m k
   found_is = sym (get_or_from_slice_get m.elements k element no_element found)
@@ -80,6 +80,16 @@ module _ (s : Shape) (m : Memories) (k : ℕ) (matches : Matches s m) (within : 
 
   pub failed_keeps : Matches s (with_element m k (empty_element Down (length element.blocks) (length element.words)))
   failed_keeps = rw found_is (failed_matches s m k matches within)
+
+  pub memory_state_is : element.state ≡ (copies s m).state k
+  unfolding copies
+  memory_state_is = ap (λ (x : MemoryElement). x.state) found_is
+
+  pub state_set_is : (state : State) → copies s (with_element m k (record element { state = state })) ≡ with_state (copies s m) k state
+  state_set_is state = rw found_is (state_set s m k matches within state)
+
+  pub state_set_keeps : (state : State) → Matches s (with_element m k (record element { state = state }))
+  state_set_keeps state = rw found_is (state_matches s m k matches within state)
 
 -- what a test-and-set leaves matches, whatever it answered
 pub swap_matches : {T E : Type 0} (s : Shape) (m : Memories) (k : ℕ) (element swapped after : MemoryElement) (result : Result T E) → with_element m k element ≡ m → Matches s m → Matches s (with_element m k swapped) → OnOk result (after ≡ swapped) → OnErr result (after ≡ element) → Matches s (with_element m k after)

@@ -12,7 +12,7 @@ use Rattle.seq_memory.specs.declared.element.MemoryElement.{MemoryElement}
 use Rattle.seq_memory.specs.declared.element.Memories.{Memories}
 use Rattle.seq_layout.specs.Places.{memory_of, place_of, IsPlace}
 use Rattle.seq_layout.specs.Shapes.{Shape}
-use Rattle.seq_layout.specs.Copies.{no_element, element_of, Copies, copies, Matches, with_block, with_word, failed}
+use Rattle.seq_layout.specs.Copies.{no_element, element_of, Copies, copies, Matches, with_block, with_word, with_state, failed}
 use Rattle.seq_layout.proofs.Apart.{apart}
 use Rattle.seq_layout.proofs.CopiesPlaces.{cell_of, within_cells, cells_after, cells_lost}
 
@@ -87,6 +87,28 @@ module _ (s : Shape) (m : Memories) (e n : ℕ) (c : Bool) (matches : Matches s 
       (same_in_all s m _ (word_element w) matches within (λ (x : MemoryElement). x.state) refl)
       (ap (cell_of s.memories s.blocks zero_block) same_blocks)
       (cells_after s.memories s.words 0 (λ i. (element_of m i).words) (λ i. (element_of after i).words) e n c w (apart s.memories s.words two) p (word_fits p) (ap (λ (x : MemoryElement). x.words) (element_here s m _ (word_element w) matches within)) (λ i other. ap (λ (x : MemoryElement). x.words) (element_elsewhere s m _ (word_element w) matches within i other)))
+
+-- the state of a memory is changed
+module _ (s : Shape) (m : Memories) (k : ℕ) (matches : Matches s m) (within : k < s.memories) (state : State) where
+  abbrev pub state_element : MemoryElement
+  state_element = record (element_of m k) { state = state }
+
+  other_state : (i : ℕ) → (element_of (with_element m k state_element) i).state ≡ cond (eqb i k) state (element_of m i).state
+  other_state i = elim (cases_Bool (eqb i k)) [
+    | inl here ↦ rw here (rw (eqb-true i k here) (ap (λ (x : MemoryElement). x.state) (element_here s m k state_element matches within)))
+    | inr other ↦ rw other (ap (λ (x : MemoryElement). x.state) (element_elsewhere s m k state_element matches within i (eqb-false i k other)))
+  ]
+
+  pub state_set : copies s (with_element m k state_element) ≡ with_state (copies s m) k state
+  unfolding copies with_state
+  state_set =
+      same_copies _ _ _ _ _ _
+      (fun_ext other_state)
+      (ap (cell_of s.memories s.blocks zero_block) (same_in_all s m k state_element matches within (λ (x : MemoryElement). x.blocks) refl))
+      (ap (cell_of s.memories s.words 0) (same_in_all s m k state_element matches within (λ (x : MemoryElement). x.words) refl))
+
+  pub state_matches : Matches s (with_element m k state_element)
+  state_matches = matches_after s m k state_element matches within refl refl
 
 -- a memory fails
 module _ (s : Shape) (m : Memories) (k : ℕ) (matches : Matches s m) (within : k < s.memories) where

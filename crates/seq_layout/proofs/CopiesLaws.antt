@@ -3,7 +3,7 @@ use Rattle.std.proofs.Common.{◌≡◌, ℕ, ◌<◌, ◌≤◌, Bool, true, fa
 use Rattle.std.proofs.lemmas.Bool.{cases_Bool, eq-eqb, ne_eqb, false_from_ne_true}
 use Rattle.seq_layout.specs.Places.{memory_of, IsSamePart}
 use Rattle.seq_layout.specs.Shapes.{Shape}
-use Rattle.seq_layout.specs.Copies.{Copies, with_block, with_word, failed, serves, IsServed, AtMostOneOut, BlockChangesAlone, WordChangesAlone, MemoryFailsAlone, AllAreServed}
+use Rattle.seq_layout.specs.Copies.{Copies, with_block, with_word, with_state, failed, serves, IsServed, AtMostOneOut, BlockChangesAlone, WordChangesAlone, MemoryFailsAlone, StateChangesAlone, AllAreServed}
 use Rattle.seq_layout.proofs.Apart.{copies_apart, memory_in}
 use Rattle.seq_layout.proofs.CopiesPlaces.{is_same_part, test_of_same, same_of_test}
 
@@ -39,6 +39,15 @@ memory_fails_alone s p k = record {
   states = λ i other. rw (ne_eqb i k other) refl;
   blocks = λ e n c other. rw (ne_eqb _ k other) refl;
   words = λ e n c other. rw (ne_eqb _ k other) refl;
+}
+
+pub state_changes_alone : StateChangesAlone
+unfolding with_state
+state_changes_alone p k now = record {
+  here = rw (eq-eqb k k refl) refl;
+  elsewhere = λ i other. rw (ne_eqb i k other) refl;
+  blocks = refl;
+  words = refl;
 }
 
 -- an extent with a copy in service is served

@@ -76,7 +76,7 @@ module _ {A : Type 0} (m : ℕ) (sizes : List ℕ) (none : A) (cells after : ℕ
   pub cells_after : cell_of m sizes none after ≡ (λ e' n' c'. cond (is_same_part e n c e' n' c') v (cell_of m sizes none cells e' n' c'))
   cells_after = fun_ext (λ e'. fun_ext (λ n'. fun_ext (λ c'. cell_after e' n' c' _ _ refl refl)))
 
-zero_cell : {A : Type 0} (none : A) (size i : ℕ) → get_or (replicate size none) i none ≡ none
+pub zero_cell : {A : Type 0} (none : A) (size i : ℕ) → get_or (replicate size none) i none ≡ none
 zero_cell none size i =
     elim (cases_lt i size) [
       | inl inside ↦ get_or-replicate size i none none inside

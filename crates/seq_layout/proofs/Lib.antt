@@ -4,11 +4,16 @@ pub mod Totals
 pub mod Rows
 pub mod Owners
 pub mod UnitLists
+pub mod UnitParts
 pub mod CopiesPlaces
 pub mod CopiesElements
 pub mod CopiesByPlace
 pub mod CopiesLaws
+pub mod FreshMemories
 pub mod CopiesWritten
+pub mod FirstCopies
+pub mod Held
 pub mod ContextBytes
 pub mod ContextNumbers
 pub mod Contexts
+pub mod ContextsRead

@@ -1,22 +1,23 @@
 -- The owner of a line is found among the processes.
-use Rattle.std.proofs.Common.{◌≡◌, ℕ, suc, ◌+◌, ◌*◌, ◌/◌, ◌%◌, ◌^◌, ◌<◌, ◌≤◌, Bool, true, false, List, [], ◌∷◌, ◌++◌, length, get_or, map, slice_get, Some, arith, refl, sym, ◌∙◌, inl, inr, drop, drop-cons, add-one}
-use Rattle.std.specs.Prelude.{IsSomeAnd, count_ones, count_by}
+use Rattle.std.proofs.Common.{◌≡◌, ℕ, zero, suc, ◌+◌, ◌*◌, ◌/◌, ◌%◌, ◌^◌, ◌<◌, ◌≤◌, Bool, true, false, cond, List, [], ◌∷◌, ◌++◌, length, get_or, map, slice_get, Some, arith, refl, ap, sym, ◌∙◌, inl, inr, drop, drop-cons, add-one}
+use Rattle.std.specs.Prelude.{IsSomeAnd, count_ones, count_by, nat_lt, if◌then◌else◌}
 use Rattle.std.specs.List.{range_with_len}
 use Rattle.std.proofs.Math.Pow.{split}
-use Rattle.std.proofs.lemmas.Bool.{eqb-true, cases_lt}
+use Rattle.std.proofs.lemmas.Bool.{eqb-true, cases_lt, cases_order}
 use Rattle.std.proofs.lemmas.Bool.Decides.{nat_tests}
 use Rattle.std.proofs.lemmas.List.Elements.{All-get_or}
 use Rattle.std.proofs.lemmas.List.{drop_all}
 use Rattle.std.proofs.lemmas.List.FromFn.{map-range_with_len_more, get_or-map-range_with_len, length-map-range_with_len}
+use Rattle.std.proofs.lemmas.List.Sums.{sum_by-cons}
 use Rattle.std.proofs.lemmas.Option.{slice_get-get_or, get_or_from_slice_get, slice_get_within}
 use lib.Count.{ones_cat, ones_step}
 use Rattle.std.proofs.lemmas.Nat.{mod_below, pow_pos}
 use Rattle.seq_words.specs.Masks.{has_bit}
-use Rattle.seq_words.specs.Description.{IsDescription, IsProcess, line_count, owner_count}
+use Rattle.seq_words.specs.Description.{IsDescription, IsProcess, line_count, owner_count, no_process}
 use Rattle.seq_words.specs.declared.names.Pid.{Pid}
 use Rattle.seq_words.specs.declared.description.MachineDesc.{MachineDesc}
 use Rattle.seq_words.specs.declared.description.ProcessDesc.{ProcessDesc}
-use Rattle.seq_layout.specs.Shapes.{index_of, owner_from, owners_of, Owns}
+use Rattle.seq_layout.specs.Shapes.{index_of, owner_from, owners_of, Owns, OwnersAreAlone}
 
 -- a mask that has a line has fewer lines below it than it has lines
 pub index_below : (lines l : ℕ) → has_bit lines l ≡ true → index_of lines l < count_ones lines
@@ -75,9 +76,6 @@ is_owned : (d : MachineDesc) (l : ℕ) → IsDescription d → l < line_count d 
 is_owned d l is below =
     let one : owner_count d l ≡ 1 = grind (arith, nat_tests, is.lines l) in
     omega arith
-
-abbrev pub no_process : ProcessDesc
-no_process = record { size = 0; entry = 0; image = []; lines = 0; grants = 0 }
 
 -- an owner has at most four lines
 index_few : (segments : ℕ) (p : ProcessDesc) (l : ℕ) → IsProcess segments p → has_bit p.lines l ≡ true → index_of p.lines l < 4
@@ -140,3 +138,44 @@ lines_sixteen d is small =
           absurd (omega arith)
       | inr few ↦ few
     ]
+
+-- who passes a test is counted
+counted : {A : Type 0} (test : A → Bool) (x : A) (xs : List A) → count_by test (x ∷ xs) ≡ cond (test x) 1 0 + count_by test xs
+counted test x xs = sum_by-cons (λ y. cond (test y) 1 0) x xs
+
+one_counted : {A : Type 0} (test : A → Bool) (xs : List A) (i : ℕ) (d : A) → i < length xs → test (get_or xs i d) ≡ true → 1 ≤ count_by test xs
+one_counted test [] i d there pass = absurd (let c : ⊥ = omega arith in c)
+one_counted test (x ∷ xs) zero d there pass = rw (counted test x xs, pass) (omega arith)
+one_counted test (x ∷ xs) (suc i) d there pass =
+    let more : 1 ≤ count_by test xs = one_counted test xs i d (omega arith) pass in
+    rw (counted test x xs) (omega (arith, more))
+
+pub two_counted : {A : Type 0} (test : A → Bool) (xs : List A) (i j : ℕ) (d : A) → i < j → j < length xs → test (get_or xs i d) ≡ true → test (get_or xs j d) ≡ true → 2 ≤ count_by test xs
+two_counted test [] i j d less there one two = absurd (let c : ⊥ = omega arith in c)
+two_counted test (x ∷ xs) i zero d less there one two = absurd (let c : ⊥ = omega arith in c)
+two_counted test (x ∷ xs) zero (suc j) d less there one two =
+    let more : 1 ≤ count_by test xs = one_counted test xs j d (omega arith) two in
+    rw (counted test x xs, one) (omega (arith, more))
+two_counted test (x ∷ xs) (suc i) (suc j) d less there one two =
+    let more : 2 ≤ count_by test xs = two_counted test xs i j d (omega arith) (omega arith) one two in
+    rw (counted test x xs) (omega (arith, more))
+
+at_most_one : (b : Bool) (n : ℕ) → n ≡ (if b then 1 else 0) → n ≤ 1
+at_most_one true n is = omega arith
+at_most_one false n is = omega arith
+
+-- processes of a description that have the same line are one
+pub one_owner : (d : MachineDesc) (l p q : ℕ) → IsDescription d → p < length d.processes → q < length d.processes → has_bit (get_or d.processes p no_process).lines l ≡ true → has_bit (get_or d.processes q no_process).lines l ≡ true → p ≡ q
+one_owner d l p q is p_in q_in first second =
+    let test : ProcessDesc → Bool = λ r. has_bit r.lines l in
+    let few : count_by test d.processes ≤ 1 = at_most_one (nat_lt l (line_count d)) (count_by test d.processes) (is.lines l) in
+    elim (cases_order p q) [
+      | inl same ↦ same
+      | inr (inl less) ↦ let many : 2 ≤ count_by test d.processes = two_counted test d.processes p q no_process less q_in first second in absurd (let c : ⊥ = omega (arith, few, many) in c)
+      | inr (inr more) ↦ let many : 2 ≤ count_by test d.processes = two_counted test d.processes q p no_process more p_in second first in absurd (let c : ⊥ = omega (arith, few, many) in c)
+    ]
+
+pub owners_are_alone : OwnersAreAlone
+owners_are_alone d l p index q index' is first second =
+    let same = one_owner d l p q is first.process second.process (first.owned no_process) (second.owned no_process) in
+    (same, first.number no_process ∙ ap (λ k. index_of (get_or d.processes k no_process).lines l) same ∙ sym (second.number no_process))

@@ -4,12 +4,11 @@ use Rattle.std.specs.Prelude.{count_ones, All}
 use Rattle.std.proofs.lemmas.List.{get_or_append_left, get_or-append-add, get_or-map, get_or-replicate, length-map, length-replicate}
 use Rattle.std.proofs.lemmas.List.Elements.{All-get_or, All-append, All-map, All-replicate, All-weaker}
 use Rattle.std.proofs.lemmas.List.Sums.{sum_by-le}
-use Rattle.seq_words.specs.Description.{IsBetween, IsDescription, IsProcess, IsSegment, IsSize, line_count}
+use Rattle.seq_words.specs.Description.{IsBetween, IsDescription, IsProcess, IsSegment, IsSize, line_count, no_process}
 use Rattle.seq_words.specs.declared.description.MachineDesc.{MachineDesc}
 use Rattle.seq_words.specs.declared.description.ProcessDesc.{ProcessDesc}
 use Rattle.seq_words.specs.declared.description.SegmentDesc.{SegmentDesc}
 use Rattle.seq_layout.specs.Places.{IsPlace}
-use Rattle.seq_layout.proofs.Owners.{no_process}
 use Rattle.seq_layout.specs.Shapes.{shape_of, process_blocks, blocks_of, words_of, process_extent, segment_extent, line_extent}
 
 -- an element of each of three joined lists

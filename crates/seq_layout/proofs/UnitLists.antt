@@ -13,11 +13,11 @@ use Rattle.seq_layout.specs.Shapes.{Shape}
 use Rattle.seq_layout.specs.Tables.{AreUnits, IsPart}
 use Rattle.seq_layout.specs.Units.{extent_units, units_below, units_of}
 
-abbrev no_unit : Unit
+abbrev pub no_unit : Unit
 no_unit = Block (record { 0 = 0 }) 0
 
 -- an extent has its blocks and its words
-length_extent : (s : Shape) (e : ℕ) → length (extent_units s e) ≡ get_or s.blocks e 0 + get_or s.words e 0
+pub length_extent : (s : Shape) (e : ℕ) → length (extent_units s e) ≡ get_or s.blocks e 0 + get_or s.words e 0
 length_extent s e = simp (length-append, length-map-range_with_len)
 
 -- first its blocks, then its words
@@ -43,7 +43,7 @@ length_added : (s : Shape) (e : ℕ) (kept : Bool) → length (cond kept (extent
 length_added s e true = length_extent s e
 length_added s e false = refl
 
-length_below : (s : Shape) (units : List ℕ) (m e : ℕ) → AreUnits s.blocks s.words units → e ≤ length s.blocks → length (units_below s m e) ≡ start_of s.memories units m e
+pub length_below : (s : Shape) (units : List ℕ) (m e : ℕ) → AreUnits s.blocks s.words units → e ≤ length s.blocks → length (units_below s m e) ≡ start_of s.memories units m e
 unfolding units_below start_of
 length_below s units m zero are inside = refl
 length_below s units m (suc e) are inside =

@@ -1,5 +1,5 @@
 -- The 256 bytes of a context: sixty-four numbers of four bytes each, the lowest byte first, in eight blocks.
-use Rattle.std.specs.Prelude.{◌≡◌, ℕ, zero, suc, ◌+◌, ◌*◌, ◌/◌, ◌%◌, ◌^◌, ◌<◌, ◌≤◌, List, ◌∷◌, ◌++◌, map, replicate, slice_index, slice_index_or}
+use Rattle.std.specs.Prelude.{◌≡◌, ℕ, zero, suc, ◌+◌, ◌*◌, ◌/◌, ◌%◌, ◌^◌, ◌<◌, ◌≤◌, List, ◌∷◌, ◌++◌, ◌⊎◌, map, replicate, length, slice_index, slice_index_or, slice_set}
 use Rattle.std.specs.List.{range_with_len}
 use Rattle.seq_words.specs.Blocks.{zero_block, word_at}
 use Rattle.seq_words.specs.declared.block.Block.{Block}
@@ -64,3 +64,63 @@ pub record AreContextNumbers (number : ℕ → ℕ) : Type 0 where
 -- Blocks are inside the format: their numbers are.
 abbrev pub IsContextBlocks : List Block → Type 0
 IsContextBlocks blocks = AreContextNumbers (number_at blocks)
+
+-- the context in eight blocks
+abbrev pub context_in : List Block → Context
+context_in b = record {
+  regs = record { x = map (number_at b) (range_with_len 0 32); pc = number_at b 32 };
+  end = number_at b 33;
+  value = number_at b 34;
+  end_pc = number_at b 35;
+  held = number_at b 36;
+  commits = number_at b 38 + 2 ^ 32 * number_at b 39;
+  reads = map (λ i. number_at b (40 + 2 * i)) (range_with_len 0 4);
+  writes = map (λ i. number_at b (41 + 2 * i)) (range_with_len 0 4);
+}
+
+-- the lists of a context are as long as its arrays
+pub record HasLengths (c : Context) : Type 0 where
+  pub registers : length c.regs.x ≡ 32
+  pub reads : length c.reads ≡ 4
+  pub writes : length c.writes ≡ 4
+
+-- The numbers of a context are its parts, each at its place.
+pub record AreParts (number : ℕ → ℕ) (c : Context) : Type 0 where
+  pub register : (k : ℕ) → k < 32 → number k ≡ slice_index c.regs.x k
+  pub pc : number 32 ≡ c.regs.pc
+  pub end : number 33 ≡ c.end
+  pub value : number 34 ≡ c.value
+  pub end_pc : number 35 ≡ c.end_pc
+  pub held : number 36 ≡ c.held
+  pub commits : number 38 + 2 ^ 32 * number 39 ≡ c.commits
+  pub read : (k : ℕ) → k < 4 → number (40 + 2 * k) ≡ slice_index c.reads k
+  pub written : (k : ℕ) → k < 4 → number (41 + 2 * k) ≡ slice_index c.writes k
+
+-- Each of eight blocks is that of one list or that of another.
+pub record AreMixed (a b mixed : List Block) : Type 0 where
+  pub each : (k : ℕ) → k < 8 → (slice_index_or mixed k zero_block ≡ slice_index_or a k zero_block) ⊎ (slice_index_or mixed k zero_block ≡ slice_index_or b k zero_block)
+
+-- The laws of contexts.
+-- The blocks of a context hold that context and no other, each part at its number.
+abbrev pub ContextsAreRead : Type 0
+ContextsAreRead = (c : Context) → HasLengths c → context_in (context_blocks c) ≡ c
+
+abbrev pub BlocksHoldOneContext : Type 0
+BlocksHoldOneContext = (a b : Context) → HasLengths a → HasLengths b → context_blocks a ≡ context_blocks b → a ≡ b
+
+abbrev pub PartsAreNumbered : Type 0
+PartsAreNumbered = (c : Context) → HasLengths c → AreParts (number_at (context_blocks c)) c
+
+-- The blocks of a context inside the format are inside it; each of them has its 32 bytes.
+abbrev pub ContextsStayInside : Type 0
+ContextsStayInside = (c : Context) → HasLengths c → c.held < 2 ^ 16 → IsContext c → IsContextBlocks (context_blocks c)
+
+abbrev pub ContextBlocksAreWhole : Type 0
+ContextBlocksAreWhole = (c : Context) (k : ℕ) → k < 8 → length (slice_index_or (context_blocks c) k zero_block).bytes ≡ 32
+
+-- The format is kept block by block: blocks of two contexts that are mixed are inside it, as those are after one is replaced.
+abbrev pub MixedStayInside : Type 0
+MixedStayInside = (a b mixed : List Block) → AreMixed a b mixed → IsContextBlocks a → IsContextBlocks b → IsContextBlocks mixed
+
+abbrev pub ReplacedStayInside : Type 0
+ReplacedStayInside = (a b : List Block) (k : ℕ) → length a ≡ 8 → IsContextBlocks a → IsContextBlocks b → IsContextBlocks (slice_set a k (slice_index_or b k zero_block))

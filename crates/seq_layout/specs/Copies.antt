@@ -3,9 +3,9 @@
 use Rattle.std.specs.Prelude.{◌≡◌, ◌≢◌, ℕ, ◌<◌, ◌≤◌, Bool, true, false, if◌then◌else◌, ◌==◌, ◌&&◌, not, [], length, slice_index, slice_index_or}
 use Rattle.seq_words.specs.Blocks.{zero_block}
 use Rattle.seq_words.specs.declared.block.Block.{Block}
-use Rattle.seq_memory.specs.States.{is_in_service}
+use Rattle.seq_memory.specs.States.{is_in_service, empty_element}
 use Rattle.seq_memory.specs.declared.element.State.{State}
-use Rattle.seq_memory.specs.declared.element.State.TheVariants.{Down}
+use Rattle.seq_memory.specs.declared.element.State.TheVariants.{InService, Down}
 use Rattle.seq_memory.specs.declared.element.MemoryElement.{MemoryElement}
 use Rattle.seq_memory.specs.declared.element.Memories.{Memories}
 use Rattle.seq_layout.specs.Places.{memory_of, start_of, place_of, is_place, IsSamePart}
@@ -36,6 +36,16 @@ pub record Matches (s : Shape) (m : Memories) : Type 0 where
   pub memories : length m.elements ≡ s.memories
   pub blocks : (i : ℕ) → i < s.memories → length (element_of m i).blocks ≡ start_of s.memories s.blocks i (length s.blocks)
   pub words : (i : ℕ) → i < s.memories → length (element_of m i).words ≡ start_of s.memories s.words i (length s.words)
+
+-- a memory in service that keeps all that memory i keeps, all of it zero
+abbrev pub fresh_element : Shape → ℕ → MemoryElement
+fresh_element s i = empty_element InService (start_of s.memories s.blocks i (length s.blocks)) (start_of s.memories s.words i (length s.words))
+
+-- every memory is in service, and all that they hold is zero
+pub record AreFresh (s : Shape) (p : Copies) : Type 0 where
+  pub state : (k : ℕ) → k < s.memories → p.state k ≡ InService
+  pub block : (e n : ℕ) (c : Bool) → p.block e n c ≡ zero_block
+  pub word : (e n : ℕ) (c : Bool) → p.word e n c ≡ 0
 
 -- the state of the memory of a copy
 abbrev pub state_of : Shape → Copies → ℕ → Bool → State
@@ -85,6 +95,10 @@ failed s p k = record {
   word = λ e n c. if memory_of s.memories e c == k then 0 else p.word e n c;
 }
 
+-- the state of one memory is changed
+unfoldable pub with_state : Copies → ℕ → State → Copies
+with_state p k state = record p { state = λ i. if i == k then state else p.state i }
+
 -- After one copy of a block, or of a word, is changed, all else is as before.
 pub record ChangesBlock (p q : Copies) (e n : ℕ) (c : Bool) (b : Block) : Type 0 where
   pub here : q.block e n c ≡ b
@@ -105,6 +119,13 @@ pub record LosesMemory (s : Shape) (p q : Copies) (k : ℕ) : Type 0 where
   pub blocks : (e n : ℕ) (c : Bool) → memory_of s.memories e c ≢ k → q.block e n c ≡ p.block e n c
   pub words : (e n : ℕ) (c : Bool) → memory_of s.memories e c ≢ k → q.word e n c ≡ p.word e n c
 
+-- After the state of a memory is changed, all else is as before.
+pub record ChangesState (p q : Copies) (k : ℕ) (state : State) : Type 0 where
+  pub here : q.state k ≡ state
+  pub elsewhere : (i : ℕ) → i ≢ k → q.state i ≡ p.state i
+  pub blocks : q.block ≡ p.block
+  pub words : q.word ≡ p.word
+
 -- at most one of the memories is not in service
 abbrev pub AtMostOneOut : Shape → Copies → Type 0
 AtMostOneOut s p =
@@ -119,6 +140,9 @@ WordChangesAlone = (p : Copies) (e n : ℕ) (c : Bool) (w : ℕ) → ChangesWord
 
 abbrev pub MemoryFailsAlone : Type 0
 MemoryFailsAlone = (s : Shape) (p : Copies) (k : ℕ) → LosesMemory s p (failed s p k) k
+
+abbrev pub StateChangesAlone : Type 0
+StateChangesAlone = (p : Copies) (k : ℕ) (state : State) → ChangesState p (with_state p k state) k state
 
 abbrev pub AllAreServed : Type 0
 AllAreServed = (s : Shape) (p : Copies) → 2 ≤ s.memories → AtMostOneOut s p → (e : ℕ) → IsServed s p e

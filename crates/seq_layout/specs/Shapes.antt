@@ -2,7 +2,7 @@
 use Rattle.std.specs.Prelude.{◌≡◌, ℕ, suc, ◌+◌, ◌*◌, ◌/◌, ◌%◌, ◌^◌, ◌<◌, true, if◌then◌else◌, List, [], ◌∷◌, ◌++◌, map, replicate, length, count_ones, slice_index_or}
 use Rattle.std.specs.List.{range_with_len}
 use Rattle.seq_words.specs.Masks.{has_bit}
-use Rattle.seq_words.specs.Description.{line_count}
+use Rattle.seq_words.specs.Description.{IsDescription, line_count}
 use Rattle.seq_words.specs.declared.names.Pid.{Pid}
 use Rattle.seq_words.specs.declared.description.MachineDesc.{MachineDesc}
 use Rattle.seq_words.specs.declared.description.ProcessDesc.{ProcessDesc}
@@ -68,3 +68,7 @@ pub record Owns (d : MachineDesc) (l p index : ℕ) : Type 0 where
   pub owned : (none : ProcessDesc) → has_bit (slice_index_or d.processes p none).lines l ≡ true
   pub number : (none : ProcessDesc) → index ≡ index_of (slice_index_or d.processes p none).lines l
   pub few : index < 4
+
+-- no other process owns the line, and it has one number among the owner's lines
+abbrev pub OwnersAreAlone : Type 0
+OwnersAreAlone = (d : MachineDesc) (l p index p' index' : ℕ) → IsDescription d → Owns d l p index → Owns d l p' index' → (p ≡ p') × (index ≡ index')

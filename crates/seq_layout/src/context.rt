@@ -14,7 +14,7 @@
 //! | 192 to 255 | zero |
 ghost use Rattle.std.specs.Prelude.{◌≡◌, ℕ, ◌+◌, ◌*◌, ◌/◌, ◌%◌, ◌^◌, ◌<◌, ◌≤◌, ◌↔◌, IsTrue, IsSome, IfSome, Some, length, slice_index, slice_index_or, EachIndex};
 ghost use Rattle.seq_words.specs.Blocks.{zero_block};
-ghost use Rattle.seq_layout.specs.Contexts.{byte_of, number_at, block_from, blocks_of, numbers_of, context_blocks, HoldContext, IsContext, AreContextNumbers, IsContextBlocks};
+ghost use Rattle.seq_layout.specs.Contexts.{byte_of, number_at, block_from, blocks_of, numbers_of, context_blocks, HoldContext, IsContext, AreContextNumbers, IsContextBlocks, HasLengths};
 
 use seq_words::{Block, Regs, block_word, set_block_word};
 
@@ -189,6 +189,8 @@ pub fn context_to_blocks(c: &Context) -> [Block; 8]
     ensures blocks { result ≡ context_blocks c.now }
     ensures holds { HoldContext result c.now }
     ensures inside { IsContextBlocks result }
+    ensures lengths { HasLengths c.now }
+    ensures whole { (k : ℕ) → k < 8 → length (slice_index_or result k zero_block).bytes ≡ 32 }
 {
     blocks_of(&numbers_of(c))
 }
@@ -200,6 +202,7 @@ pub fn blocks_to_context(b: &[Block; 8]) -> Option<Context>
     ensures blocks { IfSome result (λ c. context_blocks c ≡ b.now) }
     ensures holds { IfSome result (HoldContext b.now) }
     ensures exactly { IsSome result ↔ IsContextBlocks b.now }
+    ensures lengths { IfSome result HasLengths }
 {
     context_of(&numbers_in(b))
 }

@@ -1,12 +1,40 @@
 // The copies of blocks and words: read, written, and lost with their memories.
-ghost use Rattle.std.specs.Prelude.{◌≡◌, ◌≢◌, ◌<◌, ◌↔◌, IsOk, OnOk, OnErr, IfErr};
-ghost use Rattle.seq_memory.specs.declared.element.State.TheVariants.{Down};
+ghost use Rattle.std.specs.Prelude.{◌≡◌, ◌≢◌, ℕ, ◌<◌, ◌↔◌, Bool, true, length, IsOk, IfOk, OnOk, OnErr, IfErr};
+ghost use Rattle.seq_memory.specs.States.{is_returning};
+ghost use Rattle.seq_memory.specs.declared.element.State.TheVariants.{InService, Down, Stale, Copying};
 ghost use Rattle.seq_layout.specs.Places.{memory_of, IsPlace};
-ghost use Rattle.seq_layout.specs.Copies.{Matches, copies, state_of, serves, first_copy, first_block, first_word, IsServed, with_block, with_word, block_written, word_written, failed, BlockChangesAlone, WordChangesAlone, MemoryFailsAlone, AllAreServed};
+ghost use Rattle.seq_layout.specs.Copies.{Matches, AreFresh, fresh_element, copies, state_of, serves, first_copy, first_block, first_word, IsServed, with_block, with_word, with_state, block_written, word_written, failed, BlockChangesAlone, WordChangesAlone, MemoryFailsAlone, StateChangesAlone, AllAreServed};
 
 use crate::{Extent, Layout, WordAt};
-use seq_memory::Memories;
-use seq_words::{Block, Me};
+use seq_memory::{Memories, MemoryElement};
+use seq_words::{Block, Items, Me, NoMemory};
+use std::alloc::Global;
+
+impl Layout {
+    // A memory in service, with room for what it keeps, all of it zero.
+    fn fresh_memory(&self, alloc: Global, memory: Me) -> Result<MemoryElement, NoMemory>
+        requires { memory.0 < self.now.memories }
+        ensures { IfOk result (λ m. m ≡ fresh_element self.now memory.0) }
+    {
+        MemoryElement::new(alloc, self.block_count(memory), self.word_count(memory))
+    }
+
+    /// Fresh memories of the machine: each is in service, and all that they hold is zero. It takes memory, and may be refused it.
+    pub fn memories(&self, alloc: Global) -> Result<Memories, NoMemory>
+        ensures matches { IfOk result (Matches self.now) }
+        ensures fresh { IfOk result (λ m. AreFresh self.now (copies self.now m)) }
+        ensures served { IfOk result (λ m. (e : ℕ) (c : Bool) → serves self.now (copies self.now m) e c ≡ true) }
+    {
+        let mut elements = Items::new(alloc);
+        for memory in 0..self.memory_count() {
+            let element = self.fresh_memory(alloc, Me(memory))?;
+            if elements.push(element).is_err() {
+                return Err(NoMemory);
+            }
+        }
+        Ok(Memories { elements })
+    }
+}
 
 impl Layout {
     /// Whether a copy of an extent is in service.
@@ -46,7 +74,8 @@ impl Layout {
         requires matches { Matches self.now memories.now }
         requires place { IsPlace self.now.blocks extent.0 n }
         requires up { state_of self.now (copies self.now memories.now) extent.0 shadow ≢ Down }
-        ensures { result.now ≡ (copies self.now memories.now).block extent.0 n shadow }
+        ensures block { result.now ≡ (copies self.now memories.now).block extent.0 n shadow }
+        ensures whole { length result.now.bytes ≡ 32 }
     {
         let (me, at) = self.place(extent, n, shadow);
         memories.elements.at(me.0 as usize).read_block(at)
@@ -68,7 +97,8 @@ impl Layout {
         requires matches { Matches self.now memories.now }
         requires place { IsPlace self.now.blocks extent.0 n }
         requires served { IsServed self.now (copies self.now memories.now) extent.0 }
-        ensures { result.now ≡ first_block self.now (copies self.now memories.now) extent.0 n }
+        ensures block { result.now ≡ first_block self.now (copies self.now memories.now) extent.0 n }
+        ensures whole { length result.now.bytes ≡ 32 }
     {
         let shadow = self.first_is_shadow(extent, memories);
         self.read_block(memories, extent, n, shadow)
@@ -186,6 +216,42 @@ impl Layout {
         let element = memories.elements.at_mut(me.0 as usize);
         element.fail();
     }
+
+    /// A memory that is down is repaired: what it lost is to be copied back.
+    pub fn repair(&self, memories: &mut Memories, me: Me)
+        requires matches { Matches self.now memories.old }
+        requires memory { me.0 < self.now.memories }
+        requires down { (copies self.now memories.old).state me.0 ≡ Down }
+        ensures repaired { copies self.now memories.new ≡ with_state (copies self.now memories.old) me.0 Stale }
+        ensures matches { Matches self.now memories.new }
+    {
+        let element = memories.elements.at_mut(me.0 as usize);
+        element.repair();
+    }
+
+    /// The units of a memory below `next` are copied back.
+    pub fn mark_copied(&self, memories: &mut Memories, me: Me, next: u32)
+        requires matches { Matches self.now memories.old }
+        requires memory { me.0 < self.now.memories }
+        requires returning { is_returning ((copies self.now memories.old).state me.0) ≡ true }
+        ensures marked { copies self.now memories.new ≡ with_state (copies self.now memories.old) me.0 (Copying next) }
+        ensures matches { Matches self.now memories.new }
+    {
+        let element = memories.elements.at_mut(me.0 as usize);
+        element.mark_copied(next);
+    }
+
+    /// A memory is in service again: all that it lost is copied back.
+    pub fn enter_service(&self, memories: &mut Memories, me: Me)
+        requires matches { Matches self.now memories.old }
+        requires memory { me.0 < self.now.memories }
+        requires returning { is_returning ((copies self.now memories.old).state me.0) ≡ true }
+        ensures serves { copies self.now memories.new ≡ with_state (copies self.now memories.old) me.0 InService }
+        ensures matches { Matches self.now memories.new }
+    {
+        let element = memories.elements.at_mut(me.0 as usize);
+        element.enter_service();
+    }
 }
 
 /// Where one copy of a block is changed, all else stays as it was.
@@ -201,6 +267,11 @@ pub fn word_changes_alone()
 /// Where a memory fails, every other memory, and every copy on it, stays as it was.
 pub fn memory_fails_alone()
     ensures { MemoryFailsAlone }
+{}
+
+/// Where the state of a memory is changed, every other memory, and all that is held, stays as it was.
+pub fn state_changes_alone()
+    ensures { StateChangesAlone }
 {}
 
 /// While at most one memory is not in service, every extent has a copy in service.

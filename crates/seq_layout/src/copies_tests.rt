@@ -1,70 +1,23 @@
 // Each call on copies once, at two memories.
 ghost use Rattle.std.specs.Prelude.{◌≡◌, [], ◌∷◌, IfOk};
-ghost use Rattle.seq_words.specs.Description.{IsDescription};
-ghost use Rattle.seq_layout.specs.Shapes.{shape_of};
 ghost use Rattle.seq_layout.specs.Copies.{Matches};
 
 use crate::{Extent, Layout, WordAt};
-use seq_memory::{Memories, MemoryElement};
-use seq_words::{Block, Bytes, Items, MachineDesc, Me, NoMemory, ProcessDesc};
+use seq_memory::Memories;
+use seq_samples::lone_process;
+use seq_words::{Block, Me, NoMemory};
 use std::alloc::Global;
 
-/// Two memories, and one process of 32 bytes with no line.
-fn machine(alloc: Global) -> Result<MachineDesc, NoMemory>
-    ensures described { IfOk result IsDescription }
-    ensures memories { IfOk result (λ d. (shape_of d).memories ≡ 2) }
-    ensures blocks { IfOk result (λ d. (shape_of d).blocks ≡ 9 ∷ []) }
-    ensures words { IfOk result (λ d. (shape_of d).words ≡ 1 ∷ []) }
-{
-    let process = ProcessDesc {
-        size: 32,
-        entry: 0,
-        image: Bytes::new(alloc),
-        lines: 0,
-        grants: 0,
-    };
-    let Ok(processes) = vec![in alloc; process] else {
-        return Err(NoMemory);
-    };
-    Ok(MachineDesc {
-        processors: 1,
-        memories: 2,
-        ios: 1,
-        cache: 16,
-        quantum: 1000,
-        journal: 32,
-        segments: Items::new(alloc),
-        processes: Items::from_vec(processes),
-    })
-}
-
-/// Two memories in service, each with room for a copy of the process.
-fn two_memories(alloc: Global, layout: &Layout) -> Result<Memories, NoMemory>
-    requires memories { layout.now.memories ≡ 2 }
-    requires blocks { layout.now.blocks ≡ 9 ∷ [] }
-    requires words { layout.now.words ≡ 1 ∷ [] }
-    ensures { IfOk result (Matches layout.now) }
-{
-    let first = MemoryElement::new(alloc, 9, 1)?;
-    let second = MemoryElement::new(alloc, 9, 1)?;
-    let Ok(elements) = vec![in alloc; first, second] else {
-        return Err(NoMemory);
-    };
-    Ok(Memories {
-        elements: Items::from_vec(elements),
-    })
-}
-
-/// The layout of that machine, and its memories.
+/// The layout of the machine with one process, and its memories.
 fn started(alloc: Global) -> Result<(Layout, Memories), NoMemory>
     ensures matches { IfOk result (λ m. Matches m.0 m.1) }
     ensures memories { IfOk result (λ m. m.0.memories ≡ 2) }
     ensures blocks { IfOk result (λ m. m.0.blocks ≡ 9 ∷ []) }
     ensures words { IfOk result (λ m. m.0.words ≡ 1 ∷ []) }
 {
-    let desc = machine(alloc)?;
+    let desc = lone_process(alloc)?;
     let layout = Layout::new(alloc, &desc)?;
-    let memories = two_memories(alloc, &layout)?;
+    let memories = layout.memories(alloc)?;
     Ok((layout, memories))
 }
 

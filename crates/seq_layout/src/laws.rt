@@ -3,7 +3,8 @@ ghost use Rattle.std.specs.Prelude.{ℕ, ◌<◌, ◌≤◌, length, slice_get, 
 ghost use Rattle.seq_words.specs.Description.{IsDescription, line_count};
 ghost use Rattle.seq_words.specs.declared.description.MachineDesc.{MachineDesc};
 ghost use Rattle.seq_layout.specs.Places.{AreApart, IsPlace};
-ghost use Rattle.seq_layout.specs.Shapes.{Shape, shape_of, owners_of, Owns, process_extent, segment_extent, line_extent};
+ghost use Rattle.seq_layout.specs.Shapes.{Shape, shape_of, owners_of, Owns, OwnersAreAlone, process_extent, segment_extent, line_extent};
+ghost use Rattle.seq_layout.specs.Units.{UnitsStand, StandingAreUnits, UnitsAreOnce, UnitsAreFew};
 
 /// On two or more memories, no two copies of blocks stand at one place, and no two copies of words.
 pub fn places_are_apart()
@@ -15,6 +16,20 @@ pub fn places_are_apart()
 #[tactic(auto, using(crate::proofs::Owners::line_owned))]
 pub fn line_has_its_owner()
     ensures { (d : MachineDesc) (l : ℕ) → IsDescription d → l < line_count d → IsSomeAnd (slice_get (owners_of d) l) (λ owner. Owns d l owner.0.0 owner.1) }
+{}
+
+/// A line has one owner, and one number among its lines.
+pub fn owners_are_alone()
+    ensures { OwnersAreAlone }
+{}
+
+/// The units of a memory are exactly the blocks and words that stand on it by one of their copies, each once. There are at most as
+/// many as the machine has blocks, processes and segments, and lines three times.
+pub fn units_are_places()
+    ensures stand { UnitsStand }
+    ensures listed { StandingAreUnits }
+    ensures once { UnitsAreOnce }
+    ensures few { UnitsAreFew }
 {}
 
 /// Every extent of a machine has a block and a word: a process its eight blocks of context and its status word, a segment

@@ -72,8 +72,9 @@ impl Layout {
     }
 
     /// How many memories the machine has.
-    pub fn memories(&self) -> u8
-        ensures { result ≡ self.now.memories }
+    pub fn memory_count(&self) -> u8
+        ensures count { result ≡ self.now.memories }
+        ensures enough { 2 ≤ result }
     {
         self.blocks.memories()
     }

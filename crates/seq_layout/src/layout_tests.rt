@@ -1,77 +1,81 @@
 // The layout of a machine of three memories, written out by hand.
-ghost use Rattle.std.specs.Prelude.{◌≡◌, [], ◌∷◌, length, IfOk};
-ghost use Rattle.seq_words.specs.Description.{IsDescription};
-
 use crate::{
     Extent, Layout, Unit, WordAt, extents_have_their_parts, line_has_its_owner, places_are_apart,
 };
-use seq_words::{
-    Bytes, Items, LineNo, MachineDesc, Me, NoMemory, Pid, ProcessDesc, Seg, SegmentDesc,
-};
-use std::alloc::Global;
-use std::test::Fail;
+use seq_samples::three_memories;
+use seq_words::{LineNo, Me, NoMemory, Pid, Seg};
+use std::process::Abort;
 
-// A segment whose bytes are zero.
-fn segment(alloc: Global, size: u32) -> SegmentDesc
-    ensures size { result.size ≡ size }
-    ensures first { result.first ≡ [] }
-{
-    SegmentDesc {
-        size,
-        first: Bytes::new(alloc),
-    }
-}
-
-// A process whose bytes are zero.
-fn process(alloc: Global, size: u32, lines: u16) -> ProcessDesc
-    ensures { result ≡ record { size = size; entry = 0; image = []; lines = lines; grants = 0 } }
-{
-    ProcessDesc {
-        size,
-        entry: 0,
-        image: Bytes::new(alloc),
-        lines,
-        grants: 0,
-    }
-}
-
-// Three memories, two processes of which the second owns lines 0 and 1, and two segments.
-fn machine(alloc: Global) -> Result<MachineDesc, NoMemory>
-    ensures { IfOk result IsDescription }
-{
-    let Ok(processes) = vec![in alloc; process(alloc, 64, 0), process(alloc, 32, 3)] else {
-        return Err(NoMemory);
-    };
-    let Ok(segments) = vec![in alloc; segment(alloc, 32), segment(alloc, 64)] else {
-        return Err(NoMemory);
-    };
-    Ok(MachineDesc {
-        processors: 1,
-        memories: 3,
-        ios: 1,
-        cache: 16,
-        quantum: 1000,
-        journal: 96,
-        segments: Items::from_vec(segments),
-        processes: Items::from_vec(processes),
-    })
-}
-
-/// Of each extent: its blocks, its words, the memories of its two copies, and the places there of its first block and of
-/// its first word.
-type Row = (u32, u32, [u8; 2], [u32; 2], [u32; 2]);
+/// An extent: its blocks, its words, the memories of its two copies, and the places there of its first block and of its
+/// first word.
+type Row = (u32, u32, u32, [u8; 2], [u32; 2], [u32; 2]);
 
 const EXTENTS: [Row; 6] = [
     // the two processes
-    (10, 1, [0, 1], [0, 0], [0, 0]),
-    (25, 1, [1, 2], [10, 0], [1, 0]),
+    (0, 10, 1, [0, 1], [0, 0], [0, 0]),
+    (1, 25, 1, [1, 2], [10, 0], [1, 0]),
     // the two segments
-    (1, 1, [2, 0], [25, 10], [1, 1]),
-    (2, 1, [0, 1], [11, 35], [2, 2]),
+    (2, 1, 1, [2, 0], [25, 10], [1, 1]),
+    (3, 2, 1, [0, 1], [11, 35], [2, 2]),
     // the two lines
-    (3, 3, [1, 2], [37, 26], [3, 2]),
-    (3, 3, [2, 0], [29, 13], [5, 3]),
+    (4, 3, 3, [1, 2], [37, 26], [3, 2]),
+    (5, 3, 3, [2, 0], [29, 13], [5, 3]),
 ];
+
+// A copy of an extent: its memory, and the places there of its first block and of its first word.
+fn check_copy(
+    rt: &impl Abort,
+    layout: &Layout,
+    extent: Extent,
+    shadow: bool,
+    (memory, place, word_place): (u8, u32, u32),
+) {
+    let first = WordAt { extent, word: 0 };
+    assert!(rt; (extent.0 as usize) < layout.extents());
+    assert!(rt; layout.blocks(extent) > 0 && layout.words(extent) > 0);
+    assert_eq!(rt; layout.memory(extent, shadow), Me(memory));
+    assert_eq!(rt; layout.place(extent, 0, shadow), (Me(memory), place));
+    assert_eq!(rt; layout.word_place(first, shadow), (Me(memory), word_place));
+}
+
+fn check_extent(rt: &impl Abort, layout: &Layout, row: &Row) {
+    let (number, blocks, words, memories, places, word_places) = row;
+    let extent = Extent(*number);
+    assert!(rt; (extent.0 as usize) < layout.extents());
+    assert_eq!(rt;
+        (layout.blocks(extent), layout.words(extent)),
+        (*blocks, *words)
+    );
+    check_copy(
+        rt,
+        layout,
+        extent,
+        false,
+        (memories[0], places[0], word_places[0]),
+    );
+    check_copy(
+        rt,
+        layout,
+        extent,
+        true,
+        (memories[1], places[1], word_places[1]),
+    );
+}
+
+fn check_extents(rt: &impl Abort, layout: &Layout, rows: &[Row]) {
+    for row in rows {
+        check_extent(rt, layout, row);
+    }
+}
+
+#[test]
+fn a_machine_of_three_memories(rt: HostRuntime) -> Result<(), NoMemory> {
+    let alloc = rt.alloc();
+    let layout = Layout::new(alloc, &three_memories(alloc)?)?;
+    assert!(rt; layout.extents() == 6);
+    check_extents(&rt, &layout, &EXTENTS);
+    Ok(())
+}
 
 fn block(extent: u32, n: u32) -> Option<Unit> {
     Some(Unit::Block(Extent(extent), n))
@@ -84,37 +88,20 @@ fn word(extent: u32, word: u32) -> Option<Unit> {
     }))
 }
 
-#[test]
-fn a_machine_of_three_memories(rt: HostRuntime) -> Result<(), Fail> {
-    let alloc = rt.alloc();
-    let layout = Layout::new(alloc, &machine(alloc)?)?;
-    assert!(rt; layout.extents() == 6);
-    for (number, (blocks, words, memories, places, word_places)) in EXTENTS.iter().enumerate() {
-        let extent = Extent(number as u32);
-        let first = WordAt { extent, word: 0 };
-        assert!(rt; number < layout.extents());
-        assert_eq!(rt; layout.blocks(extent), *blocks);
-        assert_eq!(rt; layout.words(extent), *words);
-        assert!(rt; layout.blocks(extent) > 0 && layout.words(extent) > 0);
-        for (shadow, copy) in [(false, 0), (true, 1)] {
-            assert_eq!(rt; layout.memory(extent, shadow), Me(memories[copy]));
-            assert_eq!(rt;
-                layout.place(extent, 0, shadow),
-                (Me(memories[copy]), places[copy])
-            );
-            assert_eq!(rt;
-                layout.word_place(first, shadow),
-                (Me(memories[copy]), word_places[copy])
-            );
-        }
+/// Which unit of a memory is copied next.
+type UnitRow = (u8, u32, Option<Unit>);
+
+fn check_units(rt: &impl Abort, layout: &Layout, rows: &[UnitRow]) {
+    for (memory, next, unit) in rows {
+        assert!(rt; *memory < layout.memory_count());
+        assert_eq!(rt; layout.unit(Me(*memory), *next), *unit, "{memory} {next}");
     }
-    Ok(())
 }
 
 #[test]
-fn units_of_three_memories(rt: HostRuntime) -> Result<(), Fail> {
+fn units_of_three_memories(rt: HostRuntime) -> Result<(), NoMemory> {
     let alloc = rt.alloc();
-    let layout = Layout::new(alloc, &machine(alloc)?)?;
+    let layout = Layout::new(alloc, &three_memories(alloc)?)?;
     let units = [
         (0, 0, block(0, 0)),
         (0, 9, block(0, 9)),
@@ -139,32 +126,46 @@ fn units_of_three_memories(rt: HostRuntime) -> Result<(), Fail> {
         (2, 39, word(5, 2)),
         (2, u32::MAX, None),
     ];
-    for (memory, next, unit) in units {
-        assert!(rt; memory < layout.memories());
-        assert_eq!(rt; layout.unit(Me(memory), next), unit, "{memory} {next}");
-    }
+    check_units(&rt, &layout, &units);
     Ok(())
 }
 
+// The extents of the process, the segment and the line with a number below 2.
+fn check_numbered(rt: &impl Abort, layout: &Layout, number: u8) {
+    assert!(rt;
+        number < layout.processes()
+            && number < layout.segments()
+            && usize::from(number) < layout.lines()
+    );
+    assert_eq!(rt; layout.process(Pid(number)), Extent(u32::from(number)));
+    assert_eq!(rt;
+        layout.segment(Seg(number)).0.checked_sub(2),
+        Some(u32::from(number))
+    );
+    assert_eq!(rt;
+        layout.line(LineNo(number)).0.checked_sub(4),
+        Some(u32::from(number))
+    );
+    assert_eq!(rt; layout.owner(LineNo(number)), (Pid(1), number));
+}
+
+// A memory, and how many blocks and words it keeps.
+fn check_memory(rt: &impl Abort, layout: &Layout, (memory, blocks, words): (u8, u32, u32)) {
+    assert!(rt; memory < layout.memory_count());
+    assert_eq!(rt; layout.block_count(Me(memory)), blocks);
+    assert_eq!(rt; layout.word_count(Me(memory)), words);
+}
+
 #[test]
-fn processes_segments_and_lines(rt: HostRuntime) -> Result<(), Fail> {
+fn processes_segments_and_lines(rt: HostRuntime) -> Result<(), NoMemory> {
     let alloc = rt.alloc();
-    let layout = Layout::new(alloc, &machine(alloc)?)?;
+    let layout = Layout::new(alloc, &three_memories(alloc)?)?;
     assert!(rt; layout.processes() == 2 && layout.segments() == 2 && layout.lines() == 2);
-    for number in 0..2u8 {
-        let of_process = layout.process(Pid(number));
-        let of_segment = layout.segment(Seg(number));
-        let of_line = layout.line(LineNo(number));
-        assert_eq!(rt; of_process, Extent(number as u32));
-        assert_eq!(rt; of_segment, Extent(2 + number as u32));
-        assert_eq!(rt; of_line, Extent(4 + number as u32));
-        assert_eq!(rt; layout.owner(LineNo(number)), (Pid(1), number));
-    }
-    for (memory, blocks, words) in [(0, 16, 6), (1, 40, 6), (2, 32, 8)] {
-        assert!(rt; memory < layout.memories());
-        assert_eq!(rt; layout.block_count(Me(memory)), blocks);
-        assert_eq!(rt; layout.word_count(Me(memory)), words);
-    }
+    check_numbered(&rt, &layout, 0);
+    check_numbered(&rt, &layout, 1);
+    check_memory(&rt, &layout, (0, 16, 6));
+    check_memory(&rt, &layout, (1, 40, 6));
+    check_memory(&rt, &layout, (2, 32, 8));
     Ok(())
 }
 

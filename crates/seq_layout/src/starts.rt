@@ -117,7 +117,8 @@ impl Starts {
 
     /// How many memories there are.
     pub fn memories(&self) -> u8
-        ensures { result ≡ self.now.memories }
+        ensures count { result ≡ self.now.memories }
+        ensures enough { 2 ≤ result }
     {
         self.memories
     }

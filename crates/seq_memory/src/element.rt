@@ -1,7 +1,7 @@
 // A memory element: a state, blocks and words.
-ghost use Rattle.std.specs.Prelude.{◌≡◌, ◌≢◌, ◌<◌, ◌==◌, if◌then◌else◌, length, replicate, slice_get, slice_index, slice_set, Some, Ok, Err, IfOk, IsOk, OnOk, OnErr, IfErr, ◌↔◌};
+ghost use Rattle.std.specs.Prelude.{◌≡◌, ◌≢◌, ◌<◌, ◌==◌, if◌then◌else◌, true, length, replicate, slice_get, slice_index, slice_set, Some, Ok, Err, IfOk, IsOk, OnOk, OnErr, IfErr, ◌↔◌};
 ghost use Rattle.seq_words.specs.Blocks.{zero_block};
-ghost use Rattle.seq_memory.specs.States.{is_in_service, empty_element};
+ghost use Rattle.seq_memory.specs.States.{is_in_service, is_returning, empty_element};
 
 use seq_words::{Block, Items, NoMemory};
 use std::alloc::Global;
@@ -42,6 +42,11 @@ fn fill<T: Copy + Drop>(items: &mut Items<T>, item: T)
     }
 }
 
+// The length of a block's bytes, which a clause learns only where they are passed.
+fn all_bytes(bytes: &[u8; 32])
+    ensures { length bytes.now ≡ 32 }
+{}
+
 impl MemoryElement {
     /// An element in service, whose blocks and words are zero.
     pub fn new(alloc: Global, blocks: u32, words: u32) -> Result<MemoryElement, NoMemory>
@@ -67,13 +72,23 @@ impl MemoryElement {
         matches!(self.state, State::InService)
     }
 
+    /// Whether it is repaired, and not in service yet.
+    pub fn is_returning(&self) -> bool
+        ensures { result ≡ is_returning self.now.state }
+    {
+        matches!(self.state, State::Stale | State::Copying { .. })
+    }
+
     /// The block at a place.
     pub fn read_block(&self, at: u32) -> &Block
         requires place { at < length self.now.blocks }
         requires up { self.now.state ≢ State.Down }
-        ensures { slice_get self.now.blocks at ≡ Some result.now }
+        ensures block { slice_get self.now.blocks at ≡ Some result.now }
+        ensures whole { length result.now.bytes ≡ 32 }
     {
-        self.blocks.at(at as usize)
+        let block = self.blocks.at(at as usize);
+        all_bytes(&block.bytes);
+        block
     }
 
     /// Sets the block at a place.
@@ -135,5 +150,21 @@ impl MemoryElement {
         ensures { self.new ≡ record self.old { state = State.Stale } }
     {
         self.state = State::Stale;
+    }
+
+    /// Its units below `next` are copied back.
+    pub fn mark_copied(&mut self, next: u32)
+        requires { is_returning self.old.state ≡ true }
+        ensures { self.new ≡ record self.old { state = State.Copying next } }
+    {
+        self.state = State::Copying { next };
+    }
+
+    /// Is in service again: all that it lost is copied back.
+    pub fn enter_service(&mut self)
+        requires { is_returning self.old.state ≡ true }
+        ensures { self.new ≡ record self.old { state = State.InService } }
+    {
+        self.state = State::InService;
     }
 }

@@ -1,5 +1,5 @@
 -- A process that runs, and its context.
-use Rattle.std.specs.Prelude.{◌≡◌, ℕ, ◌+◌, ◌%◌, ◌==◌, if◌then◌else◌, None, slice_index}
+use Rattle.std.specs.Prelude.{◌≡◌, ℕ, ◌+◌, ◌%◌, ◌≤◌, ◌==◌, if◌then◌else◌, None, List, length, slice_index}
 use Rattle.seq_words.specs.declared.names.Pid.{Pid}
 use Rattle.seq_words.specs.declared.regs.Regs.{Regs}
 use Rattle.seq_flat.specs.declared.state.End.{End}
@@ -54,6 +54,18 @@ saved r regs = record {
   reads = r.reads;
   writes = r.writes;
 }
+
+-- The registers, read positions and numbers written of a process are as many as its arrays have.
+pub record IsWhole (r : Running) : Type 0 where
+  pub first : length r.pair.a.x ≡ 32
+  pub second : length r.pair.b.x ≡ 32
+  pub reads : length r.reads ≡ 4
+  pub writes : length r.writes ≡ 4
+
+-- Positions and numbers from a number on are unused: nothing is read or written on such a line.
+pub record AreUnusedFrom (n : ℕ) (reads writes : List ℕ) : Type 0 where
+  pub reads_none : (i : ℕ) → n ≤ i → slice_index reads i ≡ 0
+  pub writes_none : (i : ℕ) → n ≤ i → slice_index writes i ≡ 0
 
 -- A saved context is inside the format, with registers of which x0 is 0 and pc is a multiple of four.
 abbrev pub SavedIsInside : Type 0

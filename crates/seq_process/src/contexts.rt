@@ -1,7 +1,7 @@
 // Contexts are loaded and saved.
-ghost use Rattle.std.specs.Prelude.{◌≡◌, ◌≢◌, ◌+◌, ◌-◌, ◌^◌, ◌<◌, ◌≤◌, ◌==◌, if◌then◌else◌, Some, None, IsSome, ◌↔◌};
-ghost use Rattle.seq_layout.specs.Contexts.{IsContext};
-ghost use Rattle.seq_process.specs.Contexts.{end_of, end_kind, end_value, end_pc, started, saved};
+ghost use Rattle.std.specs.Prelude.{◌≡◌, ◌≢◌, ℕ, ◌+◌, ◌-◌, ◌^◌, ◌<◌, ◌≤◌, ◌==◌, if◌then◌else◌, Some, None, IsSome, IfSome, ◌↔◌};
+ghost use Rattle.seq_layout.specs.Contexts.{IsContext, HasLengths};
+ghost use Rattle.seq_process.specs.Contexts.{end_of, end_kind, end_value, end_pc, started, saved, IsWhole, AreUnusedFrom};
 
 use crate::Running;
 use seq_flat::End;
@@ -29,6 +29,8 @@ pub fn load(pid: Pid, c: &Context) -> Running
     requires cause { c.now.end ≡ 2 → c.now.value ≤ 255 }
     ensures value { result ≡ started pid c.now }
     ensures saves { c.now.commits < 2 ^ 64 - 1 → saved result c.now.regs ≡ record c.now { commits = c.now.commits + 1 } }
+    ensures whole { IsWhole result }
+    ensures unused { (n : ℕ) → AreUnusedFrom n c.now.reads c.now.writes → AreUnusedFrom n result.reads result.writes }
 {
     Running {
         pid,
@@ -61,6 +63,8 @@ pub fn save(r: &Running) -> Option<Context>
     requires { r.now.commits < 2 ^ 64 - 1 }
     ensures same { r.now.pair.a ≡ r.now.pair.b → result ≡ Some (saved r.now r.now.pair.a) }
     ensures differ { r.now.pair.a ≢ r.now.pair.b → result ≡ None }
+    ensures whole { IfSome result HasLengths }
+    ensures unused { (n : ℕ) → AreUnusedFrom n r.now.reads r.now.writes → IfSome result (λ c. AreUnusedFrom n c.reads c.writes) }
 {
     let regs = r.pair.context()?;
     let (end, value, end_pc) = end_numbers(r.end);

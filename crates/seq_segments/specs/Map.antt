@@ -1,24 +1,11 @@
 -- The flat address map. A process has its private bytes from address 0 on, and each segment s that it holds from address
 -- 0x40000000 + 0x10000 * s on. Every other address is outside.
-use Rattle.std.specs.Prelude.{ℕ, ◌+◌, ◌-◌, ◌*◌, ◌/◌, ◌%◌, ◌&&◌, if◌then◌else◌, nat_lt, Option, Some, None, [], length, count_ones, slice_index_or}
+use Rattle.std.specs.Prelude.{ℕ, ◌+◌, ◌-◌, ◌*◌, ◌/◌, ◌%◌, ◌&&◌, if◌then◌else◌, nat_lt, Option, Some, None, length, count_ones}
 use Rattle.seq_words.specs.Masks.{has_bit}
+use Rattle.seq_words.specs.Description.{process_of, segment_of}
 use Rattle.seq_words.specs.declared.description.MachineDesc.{MachineDesc}
 use Rattle.seq_words.specs.declared.description.ProcessDesc.{ProcessDesc}
-use Rattle.seq_words.specs.declared.description.SegmentDesc.{SegmentDesc}
 use Rattle.seq_layout.specs.declared.extents.Extent.{Extent}
-
--- what stands where there is no such process or segment
-abbrev pub no_process : ProcessDesc
-no_process = record { size = 0; entry = 0; image = []; lines = 0; grants = 0 }
-
-abbrev pub no_segment : SegmentDesc
-no_segment = record { size = 0; first = [] }
-
-abbrev pub process_of : MachineDesc → ℕ → ProcessDesc
-process_of d p = slice_index_or d.processes p no_process
-
-abbrev pub segment_of : MachineDesc → ℕ → SegmentDesc
-segment_of d s = slice_index_or d.segments s no_segment
 
 -- the bytes of context and of outboxes that stand before the private bytes of a process
 abbrev pub before_private : ProcessDesc → ℕ
@@ -32,5 +19,5 @@ mapped_shared d held s offset = if (nat_lt s (length d.segments) && has_bit held
 unfoldable pub mapped : MachineDesc → ℕ → ℕ → ℕ → Option (Extent × ℕ)
 mapped d p held a =
     if nat_lt a (process_of d p).size then Some (record { 0 = p }, before_private (process_of d p) + a)
-    else if nat_lt a 1073741824 then None
-    else mapped_shared d held ((a - 1073741824) / 65536) ((a - 1073741824) % 65536)
+    else if nat_lt a 0x40000000 then None
+    else mapped_shared d held ((a - 0x40000000) / 0x10000) ((a - 0x40000000) % 0x10000)

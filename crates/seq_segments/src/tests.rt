@@ -1,62 +1,13 @@
 // The addresses of two processes, written out by hand.
-ghost use Rattle.std.specs.Prelude.{◌≡◌, [], ◌∷◌, length, IfOk};
-ghost use Rattle.seq_words.specs.Description.{IsDescription};
-
 use crate::map;
 use seq_layout::Extent;
-use seq_words::{Bytes, Items, MachineDesc, NoMemory, Pid, ProcessDesc, SegmentDesc};
-use std::alloc::Global;
-
-// A segment whose bytes are zero.
-fn segment(alloc: Global, size: u32) -> SegmentDesc
-    ensures size { result.size ≡ size }
-    ensures first { result.first ≡ [] }
-{
-    SegmentDesc {
-        size,
-        first: Bytes::new(alloc),
-    }
-}
-
-// A process whose bytes are zero.
-fn process(alloc: Global, size: u32, lines: u16) -> ProcessDesc
-    ensures { result ≡ record { size = size; entry = 0; image = []; lines = lines; grants = 0 } }
-{
-    ProcessDesc {
-        size,
-        entry: 0,
-        image: Bytes::new(alloc),
-        lines,
-        grants: 0,
-    }
-}
-
-// Two processes of which the second owns lines 0 and 1, and two segments.
-fn machine(alloc: Global) -> Result<MachineDesc, NoMemory>
-    ensures { IfOk result IsDescription }
-{
-    let Ok(processes) = vec![in alloc; process(alloc, 64, 0), process(alloc, 32, 3)] else {
-        return Err(NoMemory);
-    };
-    let Ok(segments) = vec![in alloc; segment(alloc, 32), segment(alloc, 64)] else {
-        return Err(NoMemory);
-    };
-    Ok(MachineDesc {
-        processors: 1,
-        memories: 3,
-        ios: 1,
-        cache: 16,
-        quantum: 1000,
-        journal: 96,
-        segments: Items::from_vec(segments),
-        processes: Items::from_vec(processes),
-    })
-}
+use seq_samples::three_memories;
+use seq_words::{NoMemory, Pid};
 
 // Of a process with these held segments, an address, and the extent and byte that it names.
 #[test]
 fn addresses_and_what_they_name(rt: HostRuntime) -> Result<(), NoMemory> {
-    let desc = machine(rt.alloc())?;
+    let desc = three_memories(rt.alloc())?;
     for (pid, held, address, named) in [
         (0u8, 0x0000u16, 0u32, Some((0, 256))),
         (0, 0x0000, 63, Some((0, 319))),

@@ -1,5 +1,5 @@
 -- Status words: the kind in bits 0 to 7, the processor in bits 8 to 15, its incarnation in bits 16 to 63.
-use Rattle.std.specs.Prelude.{◌≡◌, ◌≢◌, ℕ, ◌+◌, ◌*◌, ◌/◌, ◌%◌, ◌^◌, ◌<◌, ◌≤◌, ◌==◌, if◌then◌else◌, Option, Some, None}
+use Rattle.std.specs.Prelude.{◌≡◌, ◌≢◌, ℕ, ◌+◌, ◌*◌, ◌/◌, ◌%◌, ◌^◌, ◌<◌, ◌≤◌, ◌==◌, if◌then◌else◌, ◌↔◌, IsSome, Option, Some, None}
 use Rattle.seq_words.specs.declared.names.Pe.{Pe}
 use Rattle.seq_status.specs.declared.status.Holder.{Holder}
 use Rattle.seq_status.specs.declared.status.Status.{Status}
@@ -47,3 +47,34 @@ status_with kind h =
 -- the status of a word
 abbrev pub status_of : ℕ → Option Status
 status_of w = if w == 0 then Some Idle else status_with (w % 256) (holder_in w)
+
+-- the processor of a status has its place in a word
+abbrev pub NamesProcessor : Status → Type 0
+NamesProcessor Idle = Unit {0}
+NamesProcessor (Run h) = h.pe.0 < 2 ^ 8
+NamesProcessor (Pass1 h) = h.pe.0 < 2 ^ 8
+NamesProcessor (Pass2 h) = h.pe.0 < 2 ^ 8
+NamesProcessor (Back h) = h.pe.0 < 2 ^ 8
+NamesProcessor (Forward h) = h.pe.0 < 2 ^ 8
+
+-- The word of a status is read as that status, and it is inside the format.
+abbrev pub StatusesAreReadBack : Type 0
+StatusesAreReadBack = (s : Status) → NamesProcessor s → status_of (word_of s) ≡ Some s
+
+abbrev pub StatusesHaveTheFormat : Type 0
+StatusesHaveTheFormat = (s : Status) → NamesProcessor s → IsStatusWord (word_of s)
+
+-- A word is that of the status as which it is read, and it is read as one exactly where it is inside the format.
+abbrev pub WordsAreWrittenBack : Type 0
+WordsAreWrittenBack = (w : ℕ) (s : Status) → status_of w ≡ Some s → word_of s ≡ w
+
+abbrev pub WordsOfTheFormatAreRead : Type 0
+WordsOfTheFormatAreRead = (w : ℕ) → IsSome (status_of w) ↔ IsStatusWord w
+
+-- The word is 0 for Idle alone: that of a process that is held isn't.
+abbrev pub HeldIsNotZero : Type 0
+HeldIsNotZero = (s : Status) → s ≢ Idle → word_of s ≢ 0
+
+-- Where its numbers have their places, the word fits 64 bits.
+abbrev pub StatusesFit : Type 0
+StatusesFit = (s : Status) → NamesProcessor s → IsStatus s → word_of s < 2 ^ 64

@@ -1,6 +1,6 @@
 use Rattle.std.proofs.Common.{◌≡◌, ℕ, ◌<◌, ◌^◌, get_or, take}
 use Rattle.std.specs.Prelude.{sum_by, count_ones}
-use Rattle.seq_layout.proofs.Owners.{no_process}
+use Rattle.seq_words.specs.Description.{no_process}
 use Rattle.seq_layout.proofs.described.line_count.Given as goal
 
 abbrev pub invariant-loop-process : goal.invariant-loop-process

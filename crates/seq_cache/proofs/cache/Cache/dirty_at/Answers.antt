@@ -7,4 +7,4 @@ use Rattle.seq_cache.proofs.cache.Cache.dirty_at.Goals as goal
 pub returns-clause-block : goal.returns-clause-block
 returns-clause-block c =
     let inside = subst (λ (s : Changes). c.args.i < length s.changes) (sym c.self.view_is) c.requires in
-    rw (← c.self.view_is) (changed_entry _ c.index.result.now c.args.i c.self.invariant.0.ascending inside (sym c.index.ensures))
+    rw (← c.self.view_is) (changed_entry _ c.index-change.result.now c.args.i c.self.invariant.0.ascending inside (sym c.index-change.ensures))
