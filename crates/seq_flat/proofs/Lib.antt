@@ -11,4 +11,7 @@ pub mod Grows
 pub mod Runs
 pub mod MoreInputs
 pub mod Outputs
+pub mod Moved
+pub mod ReachedStart
+pub mod ReachedStates
 pub mod Worked

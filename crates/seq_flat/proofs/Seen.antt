@@ -8,20 +8,20 @@ use Rattle.seq_flat.specs.State.{no_segment}
 use Rattle.seq_flat.specs.Memory.{segment_of, offset_of, shared_bytes, seen}
 
 -- an address below 0x40000000 is private
-pub seen_private : (bytes : List ℕ) (segments : List SegmentState) (p a k : ℕ) → a < 1073741824 → a % 4 + k < 4 → seen bytes segments p (a + k) ≡ slice_get bytes (a + k)
+pub seen_private : (bytes : List ℕ) (segments : List SegmentState) (p a k : ℕ) → a < 0x40000000 → a % 4 + k < 4 → seen bytes segments p (a + k) ≡ slice_get bytes (a + k)
 unfolding seen
-seen_private bytes segments p a k low near = rw (lt-ltb (a + k) 1073741824 (omega arith)) refl
+seen_private bytes segments p a k low near = rw (lt-ltb (a + k) 0x40000000 (omega arith)) refl
 
 -- the four bytes round an address lie in one segment
-pub segment_near : (a k : ℕ) → 1073741824 ≤ a → a % 4 + k < 4 → segment_of (a + k) ≡ segment_of a
+pub segment_near : (a k : ℕ) → 0x40000000 ≤ a → a % 4 + k < 4 → segment_of (a + k) ≡ segment_of a
 segment_near a k high near = omega arith
 
-pub offset_near : (a k : ℕ) → 1073741824 ≤ a → a % 4 + k < 4 → offset_of (a + k) ≡ offset_of a + k
+pub offset_near : (a k : ℕ) → 0x40000000 ≤ a → a % 4 + k < 4 → offset_of (a + k) ≡ offset_of a + k
 offset_near a k high near = omega arith
 
-pub seen_shared : (bytes : List ℕ) (segments : List SegmentState) (p a k : ℕ) → 1073741824 ≤ a → a % 4 + k < 4 → seen bytes segments p (a + k) ≡ slice_get (shared_bytes p (get_or segments ((a - 1073741824) / 65536) no_segment)) ((a - 1073741824) % 65536 + k)
+pub seen_shared : (bytes : List ℕ) (segments : List SegmentState) (p a k : ℕ) → 0x40000000 ≤ a → a % 4 + k < 4 → seen bytes segments p (a + k) ≡ slice_get (shared_bytes p (get_or segments ((a - 0x40000000) / 65536) no_segment)) ((a - 0x40000000) % 65536 + k)
 unfolding seen
-seen_shared bytes segments p a k high near = rw (le-ltb (a + k) 1073741824 (omega arith), segment_near a k high near, offset_near a k high near) refl
+seen_shared bytes segments p a k high near = rw (le-ltb (a + k) 0x40000000 (omega arith), segment_near a k high near, offset_near a k high near) refl
 
 -- a number depends on its bytes alone
 pub number_at_same : (f g : ℕ → Option ℕ) (a b width : ℕ) → ((k : ℕ) → k < width → f (a + k) ≡ g (b + k)) → number_at f a width ≡ number_at g b width

@@ -32,7 +32,7 @@ positive width (inl e) = omega arith
 positive width (inr (inl e)) = omega arith
 positive width (inr (inr e)) = omega arith
 
-pub fits_private : (bytes : List ℕ) (segments : List SegmentState) (p at width : ℕ) → IsWidth width → at % width ≡ 0 → admitted (number_at (seen bytes segments p) at width) ≡ Fits → at < 1073741824 → at + width ≤ length bytes
+pub fits_private : (bytes : List ℕ) (segments : List SegmentState) (p at width : ℕ) → IsWidth width → at % width ≡ 0 → admitted (number_at (seen bytes segments p) at width) ≡ Fits → at < 0x40000000 → at + width ≤ length bytes
 fits_private bytes segments p at width wide aligned fits low =
     let (n, is) = there (number_at (seen bytes segments p) at width) fits in
     number_inside bytes at width n (number_seen bytes segments p at width bytes at wide aligned (λ k lt. seen_private bytes segments p at k low lt) ∙ is) (positive width wide)
@@ -57,7 +57,7 @@ held_inside p n width s wide inside = go (is_owner p s.owner) refl
     go true e = (e, subst (λ (xs : List ℕ). n + width ≤ length xs) (shared_held p s e) inside)
     go false e = let none = subst (λ (xs : List ℕ). n + width ≤ length xs) (shared_other p s e) inside in absurd (let c : ⊥ = omega arith in c)
 
-pub fits_shared : (bytes : List ℕ) (segments : List SegmentState) (p at width : ℕ) → IsWidth width → at % width ≡ 0 → admitted (number_at (seen bytes segments p) at width) ≡ Fits → 1073741824 ≤ at → IsShared segments p at width
+pub fits_shared : (bytes : List ℕ) (segments : List SegmentState) (p at width : ℕ) → IsWidth width → at % width ≡ 0 → admitted (number_at (seen bytes segments p) at width) ≡ Fits → 0x40000000 ≤ at → IsShared segments p at width
 fits_shared bytes segments p at width wide aligned fits high =
     let s = get_or segments (segment_of at) no_segment in
     let (n, is) = there (number_at (seen bytes segments p) at width) fits in
@@ -84,41 +84,41 @@ unfolding stored
 stored_moved f g at b width v a c moved same = grind (arith, nat_tests)
 
 -- what is seen below and from the first segment's address on
-seen_low : (bytes : List ℕ) (segments : List SegmentState) (p a : ℕ) → a < 1073741824 → seen bytes segments p a ≡ slice_get bytes a
+seen_low : (bytes : List ℕ) (segments : List SegmentState) (p a : ℕ) → a < 0x40000000 → seen bytes segments p a ≡ slice_get bytes a
 unfolding seen
-seen_low bytes segments p a lt = rw (lt-ltb a 1073741824 lt) refl
+seen_low bytes segments p a lt = rw (lt-ltb a 0x40000000 lt) refl
 
-seen_high : (bytes : List ℕ) (segments : List SegmentState) (p a : ℕ) → 1073741824 ≤ a → seen bytes segments p a ≡ slice_get (shared_bytes p (get_or segments (segment_of a) no_segment)) (offset_of a)
+seen_high : (bytes : List ℕ) (segments : List SegmentState) (p a : ℕ) → 0x40000000 ≤ a → seen bytes segments p a ≡ slice_get (shared_bytes p (get_or segments (segment_of a) no_segment)) (offset_of a)
 unfolding seen
-seen_high bytes segments p a le = rw (le-ltb a 1073741824 le) refl
+seen_high bytes segments p a le = rw (le-ltb a 0x40000000 le) refl
 
 -- a private store ends below the segments
-low_whole : (at width : ℕ) → IsWidth width → at % width ≡ 0 → at < 1073741824 → at + width ≤ 1073741824
+low_whole : (at width : ℕ) → IsWidth width → at % width ≡ 0 → at < 0x40000000 → at + width ≤ 0x40000000
 low_whole at width (inl e) aligned low = omega arith
 low_whole at width (inr (inl e)) aligned low = let even : at % 2 ≡ 0 = subst (λ w. at % w ≡ 0) e aligned in omega arith
 low_whole at width (inr (inr e)) aligned low = let four : at % 4 ≡ 0 = subst (λ w. at % w ≡ 0) e aligned in omega arith
 
 -- a store among the segments ends in its segment
-high_whole : (at width : ℕ) → IsWidth width → at % width ≡ 0 → 1073741824 ≤ at → offset_of at + width ≤ 65536
+high_whole : (at width : ℕ) → IsWidth width → at % width ≡ 0 → 0x40000000 ≤ at → offset_of at + width ≤ 65536
 high_whole at width (inl e) aligned high = omega arith
 high_whole at width (inr (inl e)) aligned high = let even : at % 2 ≡ 0 = subst (λ w. at % w ≡ 0) e aligned in omega arith
 high_whole at width (inr (inr e)) aligned high = let four : at % 4 ≡ 0 = subst (λ w. at % w ≡ 0) e aligned in omega arith
 
-pub stores_private : (bytes : List ℕ) (segments : List SegmentState) (p at width v : ℕ) → IsWidth width → at % width ≡ 0 → at < 1073741824 → at + width ≤ length bytes → seen (bytes_stored bytes at width v) segments p ≡ stored (seen bytes segments p) at width v
-stores_private bytes segments p at width v wide aligned low inside = fun_ext (λ a. elim (cases_lt a 1073741824) [
+pub stores_private : (bytes : List ℕ) (segments : List SegmentState) (p at width v : ℕ) → IsWidth width → at % width ≡ 0 → at < 0x40000000 → at + width ≤ length bytes → seen (bytes_stored bytes at width v) segments p ≡ stored (seen bytes segments p) at width v
+stores_private bytes segments p at width v wide aligned low inside = fun_ext (λ a. elim (cases_lt a 0x40000000) [
   | inl here ↦
       seen_low (bytes_stored bytes at width v) segments p a here
       ∙ ap (λ (f : Bytes). f a) (bytes_stored_is bytes at width v inside)
       ∙ stored_moved (slice_get bytes) (seen bytes segments p) at at width v a a refl (sym (seen_low bytes segments p a here))
   | inr past ↦
-      let below : at + width ≤ 1073741824 = low_whole at width wide aligned low in
+      let below : at + width ≤ 0x40000000 = low_whole at width wide aligned low in
       seen_high (bytes_stored bytes at width v) segments p a past
       ∙ sym (seen_high bytes segments p a past)
       ∙ sym (stored_out (seen bytes segments p) at width v a (inr (omega arith)))
 ])
 
 -- an address of another segment isn't stored to
-elsewhere : (at width a : ℕ) → 1073741824 ≤ at → 1073741824 ≤ a → offset_of at + width ≤ 65536 → segment_of a ≢ segment_of at → (a < at) ⊎ (at + width ≤ a)
+elsewhere : (at width a : ℕ) → 0x40000000 ≤ at → 0x40000000 ≤ a → offset_of at + width ≤ 65536 → segment_of a ≢ segment_of at → (a < at) ⊎ (at + width ≤ a)
 elsewhere at width a high past whole other = elim (cases_lt a at) [
   | inl low ↦ inl low
   | inr from ↦ elim (cases_lt a (at + width)) [
@@ -127,14 +127,14 @@ elsewhere at width a high past whole other = elim (cases_lt a at) [
   ]
 ]
 
-pub stores_shared : (bytes : List ℕ) (segments : List SegmentState) (p at width v : ℕ) → IsWidth width → at % width ≡ 0 → 1073741824 ≤ at → IsShared segments p at width
+pub stores_shared : (bytes : List ℕ) (segments : List SegmentState) (p at width v : ℕ) → IsWidth width → at % width ≡ 0 → 0x40000000 ≤ at → IsShared segments p at width
     → seen bytes (set segments (segment_of at) (let s = get_or segments (segment_of at) no_segment in record s { bytes = bytes_stored s.bytes (offset_of at) width v })) p ≡ stored (seen bytes segments p) at width v
 stores_shared bytes segments p at width v wide aligned high shared =
     let s : SegmentState = get_or segments (segment_of at) no_segment in
     let t : SegmentState = record s { bytes = bytes_stored s.bytes (offset_of at) width v } in
     let after : List SegmentState = set segments (segment_of at) t in
     let whole : offset_of at + width ≤ 65536 = high_whole at width wide aligned high in
-    fun_ext (λ a. elim (cases_lt a 1073741824) [
+    fun_ext (λ a. elim (cases_lt a 0x40000000) [
       | inl low ↦ seen_low bytes after p a low ∙ sym (seen_low bytes segments p a low) ∙ sym (stored_out (seen bytes segments p) at width v a (inl (omega arith)))
       | inr past ↦ elim (cases_eq (segment_of a) (segment_of at)) [
         | inl same ↦
@@ -156,19 +156,19 @@ stores_shared bytes segments p at width v wide aligned high shared =
     ])
 
 -- the lists after a store, by where its address lies
-pub bytes_after_low : (bytes : List ℕ) (at width v : ℕ) → at < 1073741824 → bytes_after bytes at width v ≡ bytes_stored bytes at width v
+pub bytes_after_low : (bytes : List ℕ) (at width v : ℕ) → at < 0x40000000 → bytes_after bytes at width v ≡ bytes_stored bytes at width v
 unfolding bytes_after
-bytes_after_low bytes at width v low = rw (lt-ltb at 1073741824 low) refl
+bytes_after_low bytes at width v low = rw (lt-ltb at 0x40000000 low) refl
 
-pub bytes_after_high : (bytes : List ℕ) (at width v : ℕ) → 1073741824 ≤ at → bytes_after bytes at width v ≡ bytes
+pub bytes_after_high : (bytes : List ℕ) (at width v : ℕ) → 0x40000000 ≤ at → bytes_after bytes at width v ≡ bytes
 unfolding bytes_after
-bytes_after_high bytes at width v high = rw (le-ltb at 1073741824 high) refl
+bytes_after_high bytes at width v high = rw (le-ltb at 0x40000000 high) refl
 
-pub segments_after_low : (segments : List SegmentState) (at width v : ℕ) → at < 1073741824 → segments_after segments at width v ≡ segments
+pub segments_after_low : (segments : List SegmentState) (at width v : ℕ) → at < 0x40000000 → segments_after segments at width v ≡ segments
 unfolding segments_after
-segments_after_low segments at width v low = rw (lt-ltb at 1073741824 low) refl
+segments_after_low segments at width v low = rw (lt-ltb at 0x40000000 low) refl
 
-pub segments_after_high : (segments : List SegmentState) (at width v : ℕ) → 1073741824 ≤ at
+pub segments_after_high : (segments : List SegmentState) (at width v : ℕ) → 0x40000000 ≤ at
     → segments_after segments at width v ≡ set segments (segment_of at) (let s = get_or segments (segment_of at) no_segment in record s { bytes = bytes_stored s.bytes (offset_of at) width v })
 unfolding segments_after
-segments_after_high segments at width v high = rw (le-ltb at 1073741824 high) refl
+segments_after_high segments at width v high = rw (le-ltb at 0x40000000 high) refl

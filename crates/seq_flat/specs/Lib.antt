@@ -6,3 +6,4 @@ pub mod Run
 pub mod Whole
 pub mod Effects
 pub mod Laws
+pub mod Reached

@@ -18,10 +18,10 @@ is_owner p None = false
 
 -- the segment of an address from 0x40000000 on, and the place in it
 abbrev pub segment_of : ℕ → ℕ
-segment_of a = (a - 1073741824) / 65536
+segment_of a = (a - 0x40000000) / 0x10000
 
 abbrev pub offset_of : ℕ → ℕ
-offset_of a = (a - 1073741824) % 65536
+offset_of a = (a - 0x40000000) % 0x10000
 
 -- the bytes of a segment, for its owner alone
 abbrev pub shared_bytes : ℕ → SegmentState → List ℕ
@@ -29,7 +29,7 @@ shared_bytes p s = if is_owner p s.owner then s.bytes else []
 
 -- what process p sees, with these private bytes and among these segments
 unfoldable pub seen : List ℕ → List SegmentState → ℕ → Bytes
-seen bytes segments p = λ a. if nat_lt a 1073741824 then slice_get bytes a else slice_get (shared_bytes p (slice_index_or segments (segment_of a) no_segment)) (offset_of a)
+seen bytes segments p = λ a. if nat_lt a 0x40000000 then slice_get bytes a else slice_get (shared_bytes p (slice_index_or segments (segment_of a) no_segment)) (offset_of a)
 
 -- a store may be made where the bytes that it changes are there
 abbrev pub admitted : Option ℕ → Admit
@@ -38,11 +38,11 @@ admitted None = Outside
 
 -- the private bytes and the segments after a store: address, width, value
 unfoldable pub bytes_after : List ℕ → ℕ → ℕ → ℕ → List ℕ
-bytes_after bytes at width value = if nat_lt at 1073741824 then bytes_stored bytes at width value else bytes
+bytes_after bytes at width value = if nat_lt at 0x40000000 then bytes_stored bytes at width value else bytes
 
 unfoldable pub segments_after : List SegmentState → ℕ → ℕ → ℕ → List SegmentState
 segments_after segments at width value =
-    if nat_lt at 1073741824 then segments
+    if nat_lt at 0x40000000 then segments
     else (let s = slice_index_or segments (segment_of at) no_segment in slice_set segments (segment_of at) (record s { bytes = bytes_stored s.bytes (offset_of at) width value }))
 
 -- so many bytes from an address on, modulo 2 ^ 32, where all of them are inside

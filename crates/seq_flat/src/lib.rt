@@ -14,8 +14,8 @@ mod tests;
 
 pub use inputs::{Inputs, LineInput};
 pub use laws::{
-    more_input_changes_no_run, more_input_changes_no_step, run_keeps_output, runs_go_on,
-    step_keeps_output,
+    more_input_changes_no_run, more_input_changes_no_step, reached_states, run_keeps_output,
+    runs_go_on, shape_stays, step_keeps_output,
 };
 pub use machine::Flat;
 pub use state::{End, FlatState, LineState, ProcessState, Rights, SegmentState, StepError, Waits};

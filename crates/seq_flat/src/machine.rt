@@ -5,6 +5,8 @@ ghost use Rattle.seq_flat.specs.State.{filled, start_regs, start_process, start_
 ghost use Rattle.seq_flat.specs.Run.{output};
 ghost use Rattle.seq_flat.specs.Step.{step_or_wait, Refuses};
 ghost use Rattle.seq_flat.specs.Whole.{IsWhole};
+ghost use Rattle.seq_flat.specs.Reached.{HasShape};
+ghost use Rattle.seq_words.specs.declared.description.MachineDesc.{MachineDesc};
 
 use crate::{End, FlatState, Inputs, LineState, ProcessState, Rights, SegmentState, StepError};
 use seq_words::{Bytes, Items, LineNo, MachineDesc, NoMemory, Pid, ProcessDesc, Regs, SegmentDesc};
@@ -141,6 +143,7 @@ impl Flat {
         requires { IsDescription desc.now }
         ensures rights { IfOk result (λ f. f.rights ≡ rights_of desc.now) }
         ensures state { IfOk result (λ f. f.state ≡ start desc.now) }
+        ensures shape { IfOk result (λ f. HasShape desc.now f.state) }
     {
         let rights = rights_of(alloc, desc.processes.as_slice())?;
         let state = start_state(alloc, desc)?;
@@ -148,12 +151,13 @@ impl Flat {
     }
 
     /// One step of a process. It waits exactly where the process isn't enabled, and says for what; a process that isn't
-    /// in the description waits as ended. An error changes nothing.
+    /// in the description waits as ended. An error changes nothing. A state keeps the shape of the description's machine.
     pub fn step(&mut self, pid: Pid, inputs: &Inputs) -> Result<(), StepError>
         ensures ok { OnOk result (step_or_wait self.old.rights inputs.now.lines self.old.state pid.0 ≡ Ok self.new.state) }
         ensures waits { IfErr result (Refuses (step_or_wait self.old.rights inputs.now.lines self.old.state pid.0)) }
         ensures same { OnErr result (self.new.state ≡ self.old.state) }
         ensures rights { self.new.rights ≡ self.old.rights }
+        ensures shape { (d : MachineDesc) → HasShape d self.old.state → HasShape d self.new.state }
     {
         self.state.step(self.rights.as_slice(), pid, inputs)
     }

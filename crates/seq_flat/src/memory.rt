@@ -146,10 +146,10 @@ fn put(bytes: &mut Bytes, at: usize, width: u8, value: u32)
 // Puts the low bytes of a number at an address among the segments.
 #[tactic(auto, using(crate::proofs::Stores::segments_after_high))]
 fn put_shared(segments: &mut Items<SegmentState>, at: u32, width: u8, value: u32)
-    requires high { 1073741824 ≤ at }
+    requires high { 0x40000000 ≤ at }
     requires width { IsWidth width }
-    requires there { (at - 1073741824) / 65536 < length segments.old }
-    requires inside { (at - 1073741824) % 65536 + width ≤ length (slice_index_or segments.old ((at - 1073741824) / 65536) no_segment).bytes }
+    requires there { (at - 0x40000000) / 0x10000 < length segments.old }
+    requires inside { (at - 0x40000000) % 0x10000 + width ≤ length (slice_index_or segments.old ((at - 0x40000000) / 0x10000) no_segment).bytes }
     ensures { segments.new ≡ segments_after segments.old at width value }
 {
     let beyond = at - SEGMENTS;

@@ -1,13 +1,13 @@
 //! The table of kernel calls, and programs that run to their end.
-ghost use Rattle.std.specs.Prelude.{◌≡◌, ◌≤◌, [], length, IfOk};
-ghost use Rattle.seq_words.specs.Description.{IsSize, IsDescription};
+ghost use Rattle.seq_words.specs.Description.{IsSize};
 
 use crate::{
     End, Flat, Inputs, LineInput, StepError, Waits, more_input_changes_no_run,
     more_input_changes_no_step, run_keeps_output, runs_go_on, step_keeps_output,
 };
 use seq_isa::{Instr, encode};
-use seq_words::{Bytes, Items, LineNo, MachineDesc, NoMemory, Pid, ProcessDesc, Seg, SegmentDesc};
+use seq_samples::two_images;
+use seq_words::{Bytes, Items, LineNo, Pid, Seg};
 use std::alloc::Global;
 use std::process::Abort;
 use std::test::Fail;
@@ -86,61 +86,6 @@ fn assemble_call(image: &mut Bytes, number: i32, x10: i32, x11: i32, x12: i32) -
     assemble(image, &instrs)
 }
 
-/// A segment of 32 bytes.
-fn segment(alloc: Global) -> SegmentDesc
-    ensures size { result.size ≡ 32 }
-    ensures first { result.first ≡ [] }
-{
-    SegmentDesc {
-        size: 32,
-        first: Bytes::new(alloc),
-    }
-}
-
-/// Two processes of so many bytes. The first owns line 0, and both are granted segments 0, 1 and 2 of four.
-fn machine(alloc: Global, size: u32, image: Bytes, other: Bytes) -> Result<MachineDesc, NoMemory>
-    requires size { IsSize 65536 size }
-    requires image { length image ≤ size }
-    requires other { length other ≤ size }
-    ensures { IfOk result IsDescription }
-{
-    let first = ProcessDesc {
-        size,
-        entry: 0,
-        image,
-        lines: 1,
-        grants: 7,
-    };
-    let second = ProcessDesc {
-        size,
-        entry: 0,
-        image: other,
-        lines: 0,
-        grants: 7,
-    };
-    let Ok(processes) = vec![in alloc; first, second] else {
-        return Err(NoMemory);
-    };
-    let Ok(segments) = vec![in alloc;
-        segment(alloc),
-        segment(alloc),
-        segment(alloc),
-        segment(alloc),
-    ] else {
-        return Err(NoMemory);
-    };
-    Ok(MachineDesc {
-        processors: 1,
-        memories: 2,
-        ios: 1,
-        cache: 16,
-        quantum: 1000,
-        journal: 32,
-        segments: Items::from_vec(segments),
-        processes: Items::from_vec(processes),
-    })
-}
-
 /// The flat machine of these two images.
 fn flat_of(
     rt: &impl Abort,
@@ -153,7 +98,7 @@ fn flat_of(
 {
     assert!(rt; image.as_slice().len() <= size as usize);
     assert!(rt; other.as_slice().len() <= size as usize);
-    let desc = machine(alloc, size, image, other)?;
+    let desc = two_images(alloc, size, image, size, other)?;
     Ok(Flat::new(alloc, &desc)?)
 }
 
@@ -215,6 +160,38 @@ fn kernel_calls(rt: HostRuntime) -> Result<(), Fail> {
         assert_eq!(rt; (made, answer(&flat, call.0)), (5, wanted), "{call:?}");
     }
     assert_eq!(rt; flat.output(LineNo(0)).len(), 66);
+    Ok(())
+}
+
+/// Writes of each length from 0 on, below this one.
+const LENGTHS: u32 = 66;
+
+/// The next write, of so many bytes, is answered with its length, and put out whole, up to 64 bytes.
+fn check_write(rt: &impl Abort, flat: &mut Flat, inputs: &Inputs, length: u32) {
+    let before = flat.output(LineNo(0)).len();
+    let made = steps(flat, 0, inputs, 5);
+    let (wanted, taken) = if length <= 64 {
+        (length, length as usize)
+    } else {
+        (u32::MAX - 6, 0)
+    };
+    assert_eq!(rt; (made, answer(flat, 0)), (5, Some(wanted)), "{length}");
+    let after = flat.output(LineNo(0)).len();
+    assert_eq!(rt; after.checked_sub(before), Some(taken), "{length}");
+}
+
+#[test]
+fn writes_of_each_length(rt: HostRuntime) -> Result<(), Fail> {
+    let alloc = rt.alloc();
+    let mut image = Bytes::new(alloc);
+    for length in 0..LENGTHS {
+        assemble_call(&mut image, 4, 0, 0, length.cast_signed())?;
+    }
+    let mut flat = flat_of(&rt, alloc, 2048, image, Bytes::new(alloc))?;
+    let inputs = inputs_of(alloc, b"", false)?;
+    for length in 0..LENGTHS {
+        check_write(&rt, &mut flat, &inputs, length);
+    }
     Ok(())
 }
 

@@ -1,3 +1,5 @@
 pub mod Refusals
 pub mod Numbers
 pub mod NextPc
+pub mod Values
+pub mod Outcomes
