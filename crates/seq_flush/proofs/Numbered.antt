@@ -1,8 +1,8 @@
 -- The units of a flush by their numbers: which they are, where they stand, and that no two are of the same block.
-use Rattle.std.proofs.Common.{◌≡◌, ℕ, zero, suc, ◌+◌, ◌-◌, ◌<◌, ◌≤◌, true, false, leb, List, length, get_or, arith, refl, sym, ◌∙◌, inl, inr}
+use Rattle.std.proofs.Common.{◌≡◌, ℕ, zero, suc, ◌+◌, ◌-◌, ◌<◌, ◌≤◌, true, false, leb, List, length, drop, get_or, length-drop, arith, refl, sym, ◌∙◌, inl, inr}
 use Rattle.std.proofs.lemmas.Bool.{cases_lt, cases_order, leb-true, leb-false}
 use Rattle.std.proofs.lemmas.Bool.Decides.{nat_tests}
-use Rattle.std.proofs.lemmas.List.{length-append, get_or_append_left, get_or-append_right, get_or_default}
+use Rattle.std.proofs.lemmas.List.{length-append, get_or_append_left, get_or-append_right, get_or_default, get_or-drop}
 use Rattle.seq_words.specs.declared.block.Block.{Block}
 use Rattle.seq_layout.specs.Shapes.{Shape}
 use Rattle.seq_layout.specs.Places.{IsPlace}
@@ -11,6 +11,7 @@ use Rattle.seq_cache.specs.Changes.{IsAscending, is_before}
 use Rattle.seq_flush.specs.Units.{context_change, context_changes, units_of, HavePlaces}
 use Rattle.seq_flush.specs.Turns.{no_change, unit_at}
 use Rattle.seq_flush.specs.Facts.{AreApart}
+use Rattle.seq_flush.specs.Laws.{RestIsApart}
 
 pub length_units : (p : ℕ) (context : List Block) (changes : List Change) → length (units_of p context changes) ≡ length changes + 8
 unfolding units_of
@@ -51,7 +52,7 @@ unit_context p context changes i after within =
 pub unit_has_place : (s : Shape) (p : ℕ) (context : List Block) (changes : List Change) (i : ℕ) → HavePlaces s p changes → i < length changes + 8 → IsPlace s.blocks (unit_at (units_of p context changes) i).extent.0 (unit_at (units_of p context changes) i).place
 unit_has_place s p context changes i places within =
     elim (cases_lt i (length changes)) [
-      | inl inside ↦ rw (unit_changed p context changes i no_change inside) (places.changed i no_change inside)
+      | inl inside ↦ rw (unit_changed p context changes i no_change inside) (places.changed i no_change inside).place
       | inr after ↦ rw (unit_context p context changes i after within) (places.context (i - length changes) (omega arith))
     ]
 
@@ -73,7 +74,7 @@ module _ (s : Shape) (p : ℕ) (context : List Block) (changes : List Change) (u
             elim (cases_lt i (length changes)) [
               | inl inside ↦
                   let first = unit_changed p context changes i no_change inside in
-                  let beside = places.beside i no_change inside (rw (first, second) at extent) in
+                  let beside = (places.changed i no_change inside).beside (rw (first, second) at extent) in
                   absurd (omega (arith, beside, rw (first, second) at place))
               | inr both_after ↦
                   let first = unit_context p context changes i both_after (omega arith) in
@@ -92,3 +93,14 @@ module _ (s : Shape) (p : ℕ) (context : List Block) (changes : List Change) (u
             | inr (inl below) ↦ absurd (differ i j below (omega arith) extent place)
             | inr (inr above) ↦ absurd (differ j i above (omega arith) (sym extent) (sym place))
           ]
+
+-- units that are apart are so from any of them on
+pub rest_apart : RestIsApart
+rest_apart us k apart = record { number = number }
+  where
+    number : (i j : ℕ) → i < length (drop k us) → j < length (drop k us) → (unit_at (drop k us) i).extent.0 ≡ (unit_at (drop k us) j).extent.0 → (unit_at (drop k us) i).place ≡ (unit_at (drop k us) j).place → i ≡ j
+    number i j first second extent place =
+        let a : unit_at (drop k us) i ≡ unit_at us (k + i) = get_or-drop k us i no_change in
+        let b : unit_at (drop k us) j ≡ unit_at us (k + j) = get_or-drop k us j no_change in
+        let same : k + i ≡ k + j = apart.number (k + i) (k + j) (omega (arith, length-drop k us)) (omega (arith, length-drop k us)) (rw (a, b) at extent) (rw (a, b) at place) in
+        omega arith

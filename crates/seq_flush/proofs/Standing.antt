@@ -1,21 +1,17 @@
 -- What stands on the copies after a unit, a status word, or all that is left is written.
-use Rattle.std.proofs.Common.{◌≡◌, ℕ, zero, suc, ◌+◌, ◌<◌, Bool, true, false, List, [], ◌∷◌, length, take, arith, refl, sym, ap, ◌∙◌, inl, inr}
+use Rattle.std.proofs.Common.{ℕ, zero, suc, ◌+◌, ◌<◌, Bool, true, false, List, [], ◌∷◌, length, take, arith, sym, ap, ◌∙◌, inl, inr}
 use Rattle.std.proofs.lemmas.Bool.{false≢true, cases_eq}
 use Rattle.std.proofs.lemmas.List.{length-take-le, get_or-take}
-use Rattle.seq_memory.specs.States.{is_in_service}
-use Rattle.seq_layout.specs.Places.{memory_of, IsSamePart}
+use Rattle.seq_layout.specs.Places.{IsSamePart}
 use Rattle.seq_layout.specs.Shapes.{Shape}
-use Rattle.seq_layout.specs.Copies.{Copies, serves}
+use Rattle.seq_layout.specs.Copies.{Copies}
+use Rattle.seq_layout.proofs.Held.{serves_as_before}
 use Rattle.seq_layout.proofs.CopiesWritten.{block_states, block_here, block_elsewhere, word_states, word_blocks}
 use Rattle.seq_status.specs.declared.status.Status.{Status}
 use Rattle.seq_status.specs.Words.{word_of}
 use Rattle.seq_cache.specs.declared.change.Change.{Change}
 use Rattle.seq_flush.specs.Turns.{no_change, unit_at, unit_written, status_written}
 use Rattle.seq_flush.specs.Facts.{Stands, Stand, AreApart, all_written}
-
--- a copy serves as before where the states are as before
-pub serves_as_before : (s : Shape) (p q : Copies) (e : ℕ) (c : Bool) → q.state ≡ p.state → serves s q e c ≡ true → serves s p e c ≡ true
-serves_as_before s p q e c states serving = ap (λ states. is_in_service (states (memory_of s.memories e c))) (sym states) ∙ serving
 
 -- a unit stands once it is written
 written_stands : (s : Shape) (p : Copies) (c : Bool) (u : Change) → Stands s (unit_written s p c u) c u
@@ -64,12 +60,6 @@ one_more_stands s p c us k apart within stood = record { each = each }
     each i inside =
         let below : i < k + 1 = omega (arith, length-take-le (k + 1) us (omega arith)) in
         rw (get_or-take (k + 1) us i no_change below) (stands i below)
-
--- the states stay, whatever is written
-all_states : (s : Shape) (p : Copies) (c : Bool) (us : List Change) → (all_written s p c us).state ≡ p.state
-unfolding all_written
-all_states s p c [] = refl
-all_states s p c (u ∷ us) = all_states s (unit_written s p c u) c us ∙ block_states s p u.extent.0 u.place c u.block
 
 -- a unit that stands, and is none of those that are written, stands still
 still_stands : (s : Shape) (p : Copies) (c : Bool) (us : List Change) (u : Change) → ((k : ℕ) → k < length us → ¬ (IsSamePart (unit_at us k).extent.0 (unit_at us k).place c u.extent.0 u.place c)) → Stands s p c u → Stands s (all_written s p c us) c u

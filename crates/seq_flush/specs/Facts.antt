@@ -1,54 +1,74 @@
 -- What the states of a flush know of the copies that are in service.
-use Rattle.std.specs.Prelude.{◌≡◌, ◌≢◌, ℕ, ◌-◌, ◌<◌, ◌≤◌, Bool, true, false, List, [], ◌∷◌, length, take, drop}
-use Rattle.seq_words.specs.declared.block.Block.{Block}
+use Rattle.std.specs.Prelude.{◌≡◌, ◌≢◌, ℕ, ◌-◌, ◌<◌, ◌≤◌, Bool, true, false, unwrap_or, List, [], ◌∷◌, length, take, drop}
+use Rattle.seq_layout.specs.declared.units.WordAt.{WordAt}
 use Rattle.seq_layout.specs.Shapes.{Shape}
-use Rattle.seq_layout.specs.Copies.{Copies, serves, with_block, with_word, failed}
+use Rattle.seq_layout.specs.Copies.{Copies, serves}
+use Rattle.seq_layout.specs.Held.{Holds, HoldBoth, HoldsBlock, IsOther}
 use Rattle.seq_status.specs.declared.status.Status.{Status}
-use Rattle.seq_status.specs.declared.status.Status.TheVariants.{Run}
-use Rattle.seq_status.specs.declared.step.Step.TheVariants.{Again, Next}
+use Rattle.seq_status.specs.declared.status.Status.TheVariants.{Run, Pass1, Pass2}
 use Rattle.seq_status.specs.Words.{word_of}
-use Rattle.seq_cache.specs.Changes.{IsAscending}
+use Rattle.seq_cache.specs.Changes.{changed}
 use Rattle.seq_cache.specs.declared.change.Change.{Change}
+use Rattle.seq_flush.specs.declared.stages.Mark.{Mark}
 use Rattle.seq_flush.specs.declared.stages.First.{First}
 use Rattle.seq_flush.specs.declared.stages.Second.{Second}
 use Rattle.seq_flush.specs.declared.stages.Close.{Close}
 use Rattle.seq_flush.specs.declared.flush.Flush.{Flush}
-use Rattle.seq_flush.specs.Units.{HavePlaces, units_of}
-use Rattle.seq_flush.specs.Turns.{unit_at, units, unit_written, first_turn, second_turn}
+use Rattle.seq_flush.specs.Turns.{unit_at, units, unit_written}
 
 -- a unit stands on its copy of this kind, if that is in service
 abbrev pub Stands : Shape → Copies → Bool → Change → Type 0
-Stands s p shadow unit = serves s p unit.extent.0 shadow ≡ true → p.block unit.extent.0 unit.place shadow ≡ unit.block
+Stands s p shadow unit = HoldsBlock s p unit.extent.0 unit.place shadow unit.block
 
 -- each of the units does
 pub record Stand (s : Shape) (p : Copies) (shadow : Bool) (us : List Change) : Type 0 where
   pub each : (k : ℕ) → k < length us → Stands s p shadow (unit_at us k)
 
--- the status word of a process is this one on a copy in service
+-- the status word of a process
+abbrev pub status_at : ℕ → WordAt
+status_at pid = record { extent = record { 0 = pid }; word = 0 }
+
+-- the status word is this one on a copy, if that is in service
 abbrev pub Says : Shape → Copies → ℕ → Bool → Status → Type 0
-Says s p pid shadow status = serves s p pid shadow ≡ true → p.word pid 0 shadow ≡ word_of status
+Says s p pid shadow status = Holds s p (status_at pid) shadow (word_of status)
 
--- First: the units behind the cursor stand on the primaries
-abbrev pub FirstKnows : Shape → Copies → List Change → Flush First → Type 0
-FirstKnows s p changes f = Stand s p false (take f.cursor (units f changes))
+-- it is the first of these on the primary and the second on the shadow, each if in service
+abbrev pub BothSay : Shape → Copies → ℕ → Status → Status → Type 0
+BothSay s p pid primary shadow = HoldBoth s p (status_at pid) (word_of primary) (word_of shadow)
 
--- Second: every unit stands on the primaries, and those behind the cursor on the shadows
+-- Mark: after its first turn the primary word is Pass1
+pub record MarkKnows (s : Shape) (p : Copies) (f : Flush Mark) : Type 0 where
+  pub cursor : f.cursor ≤ 1
+  pub begun : f.cursor ≢ 0 → Says s p f.pid.0 false (Pass1 f.holder)
+
+-- First: the units behind the cursor stand on the primaries, and both words are Pass1
+pub record FirstKnows (s : Shape) (p : Copies) (changes : List Change) (f : Flush First) : Type 0 where
+  pub cursor : f.cursor ≤ length (units f changes)
+  pub primaries : Stand s p false (take f.cursor (units f changes))
+  pub words : BothSay s p f.pid.0 (Pass1 f.holder) (Pass1 f.holder)
+
+-- Second: every unit stands on the primaries, and those behind the cursor on the shadows. The primary word is Pass2, and so
+-- is the shadow word after the first turn.
 pub record SecondKnows (s : Shape) (p : Copies) (changes : List Change) (f : Flush Second) : Type 0 where
+  pub cursor : f.cursor ≤ length (units f changes)
   pub primaries : Stand s p false (units f changes)
   pub shadows : Stand s p true (take (f.cursor - 1) (units f changes))
+  pub begins : f.cursor ≡ 0 → BothSay s p f.pid.0 (Pass2 f.holder) (Pass1 f.holder)
+  pub begun : f.cursor ≢ 0 → BothSay s p f.pid.0 (Pass2 f.holder) (Pass2 f.holder)
 
--- Close: every unit stands on each copy
+-- Close: every unit stands on each copy. Both words are Pass2, and the primary is Run after the first turn.
 pub record CloseKnows (s : Shape) (p : Copies) (changes : List Change) (f : Flush Close) : Type 0 where
+  pub cursor : f.cursor ≤ 1
   pub primaries : Stand s p false (units f changes)
   pub shadows : Stand s p true (units f changes)
-  pub word : f.cursor ≢ 0 → Says s p f.pid.0 false (Run f.holder)
+  pub begins : f.cursor ≡ 0 → BothSay s p f.pid.0 (Pass2 f.holder) (Pass2 f.holder)
+  pub begun : f.cursor ≢ 0 → BothSay s p f.pid.0 (Run f.holder) (Pass2 f.holder)
 
--- Closed: every unit stands on each copy, and the word is Run
+-- Closed: every unit stands on each copy, and both words are Run
 pub record ClosedKnows {S : Type 0} (s : Shape) (p : Copies) (changes : List Change) (f : Flush S) : Type 0 where
   pub primaries : Stand s p false (units f changes)
   pub shadows : Stand s p true (units f changes)
-  pub primary_word : Says s p f.pid.0 false (Run f.holder)
-  pub shadow_word : Says s p f.pid.0 true (Run f.holder)
+  pub words : BothSay s p f.pid.0 (Run f.holder) (Run f.holder)
 
 -- the copies after all these units are written, one after the other
 unfoldable pub all_written : Shape → Copies → Bool → List Change → Copies
@@ -66,51 +86,20 @@ left_of_first s p changes f = all_written s p false (drop f.cursor (units f chan
 abbrev pub left_of_second : Shape → Copies → List Change → Flush Second → Copies
 left_of_second s p changes f = all_written s p true (drop (f.cursor - 1) (units f changes))
 
--- A turn that writes a unit leaves the same copies to come: before it with that unit, after it without.
-abbrev pub FirstWritesWhatIsLeft : Type 0
-FirstWritesWhatIsLeft =
-    (s : Shape) (p : Copies) (changes : List Change) (f g : Flush First) →
-    (first_turn s p changes f).step ≡ Again g → left_of_first s (first_turn s p changes f).copies changes g ≡ left_of_first s p changes f
-
-abbrev pub SecondWritesWhatIsLeft : Type 0
-SecondWritesWhatIsLeft =
-    (s : Shape) (p : Copies) (changes : List Change) (f g : Flush Second) →
-    f.cursor ≢ 0 → (second_turn s p changes f).step ≡ Again g → left_of_second s (second_turn s p changes f).copies changes g ≡ left_of_second s p changes f
-
--- Nothing is left at the commit, nor after the last turn of the second pass.
-abbrev pub NothingIsLeft : Type 0
-NothingIsLeft =
-    (s : Shape) (p : Copies) (changes : List Change) →
-    ((f : Flush First) (g : Flush Second) → (first_turn s p changes f).step ≡ Next g → left_of_first s p changes f ≡ p) ×
-    ((f : Flush Second) (g : Flush Close) → f.cursor ≤ length (units f changes) → (second_turn s p changes f).step ≡ Next g → (second_turn s p changes f).copies ≡ left_of_second s p changes f)
-
--- Units that are apart stand after all of them are written.
-abbrev pub AllWrittenStand : Type 0
-AllWrittenStand = (s : Shape) (p : Copies) (shadow : Bool) (us : List Change) → AreApart us → Stand s (all_written s p shadow us) shadow us
-
--- The units of a flush are apart.
-abbrev pub UnitsAreApart : Type 0
-UnitsAreApart =
-    (s : Shape) (p : ℕ) (context : List Block) (changes : List Change) →
-    IsAscending changes → HavePlaces s p changes → AreApart (units_of p context changes)
-
 -- none of the units is of this extent
 pub record Avoid (us : List Change) (e : ℕ) : Type 0 where
   pub each : (k : ℕ) → k < length us → (unit_at us k).extent.0 ≢ e
 
--- That units stand survives each write to another extent's blocks and to any word, and the failure of a memory.
-abbrev pub StandingSurvives : Type 0
-StandingSurvives =
-    (s : Shape) (p : Copies) (shadow : Bool) (us : List Change) → Stand s p shadow us →
-    ((e n : ℕ) (c : Bool) (b : Block) → Avoid us e → Stand s (with_block p e n c b) shadow us) ×
-    ((e n : ℕ) (c : Bool) (w : ℕ) → Stand s (with_word p e n c w) shadow us) ×
-    ((k : ℕ) → Stand s (failed s p k) shadow us)
+-- none of the units is block n of extent e
+pub record IsNoUnit (us : List Change) (e n : ℕ) : Type 0 where
+  pub each : (k : ℕ) → k < length us → IsOther (unit_at us k).extent.0 (unit_at us k).place e n
 
--- What is said of a process's status word survives each write to another extent's words and to any block, and the
--- failure of a memory.
-abbrev pub WordSurvives : Type 0
-WordSurvives =
-    (s : Shape) (p : Copies) (pid : ℕ) (shadow : Bool) (status : Status) → Says s p pid shadow status →
-    ((e n : ℕ) (c : Bool) (w : ℕ) → pid ≢ e → Says s (with_word p e n c w) pid shadow status) ×
-    ((e n : ℕ) (c : Bool) (b : Block) → Says s (with_block p e n c b) pid shadow status) ×
-    ((k : ℕ) → Says s (failed s p k) pid shadow status)
+-- Units are written to the copies of one kind. Where they are apart, each such copy in service holds the unit of its block, or
+-- else what it held. Copies out of service, copies of the other kind, blocks that are no units, words and states are as before.
+pub record IsOneLayer (s : Shape) (p q : Copies) (shadow : Bool) (us : List Change) : Type 0 where
+  pub layer : AreApart us → (e n : ℕ) → serves s p e shadow ≡ true → q.block e n shadow ≡ unwrap_or (changed us e n) (p.block e n shadow)
+  pub out : (e n : ℕ) → serves s p e shadow ≡ false → q.block e n shadow ≡ p.block e n shadow
+  pub other_kind : (e n : ℕ) (c : Bool) → c ≢ shadow → q.block e n c ≡ p.block e n c
+  pub other_blocks : (e n : ℕ) (c : Bool) → IsNoUnit us e n → q.block e n c ≡ p.block e n c
+  pub words : q.word ≡ p.word
+  pub states : q.state ≡ p.state

@@ -1,3 +1,4 @@
 pub mod Units
 pub mod Turns
 pub mod Facts
+pub mod Laws

@@ -75,3 +75,10 @@ close_turn s p f =
     if f.cursor == 0
     then record { copies = status_written s p f.pid.0 false (Run f.holder); step = Again (record f { cursor = 1 }) }
     else record { copies = status_written s p f.pid.0 true (Run f.holder); step = Next (record {}) }
+
+-- how many turns of Mark and First a flush has taken that is in Mark, and one that is in First
+abbrev pub taken_in_mark : Flush Mark → ℕ
+taken_in_mark f = f.cursor
+
+abbrev pub taken_in_first : Flush First → ℕ
+taken_in_first f = f.cursor + 2

@@ -1,5 +1,5 @@
 -- The units of a flush: the changed blocks in ascending order of extent and place, then the eight blocks of the context.
-use Rattle.std.specs.Prelude.{◌≡◌, ℕ, ◌<◌, ◌≤◌, List, ◌∷◌, [], ◌++◌, length, slice_index_or}
+use Rattle.std.specs.Prelude.{◌≡◌, ℕ, ◌<◌, ◌≤◌, All, List, ◌∷◌, [], ◌++◌, slice_index_or}
 use Rattle.seq_words.specs.Blocks.{zero_block}
 use Rattle.seq_words.specs.declared.block.Block.{Block}
 use Rattle.seq_layout.specs.Shapes.{Shape}
@@ -18,10 +18,13 @@ context_changes p context =
 unfoldable pub units_of : ℕ → List Block → List Change → List Change
 units_of p context changes = changes ++ context_changes p context
 
--- What a flush of process p writes has places: its context, its status word, and each changed block, of which none is a
--- block of the context.
+-- A changed block has a place, and isn't a block of the context of process p.
+pub record IsBeside (s : Shape) (p : ℕ) (change : Change) : Type 0 where
+  pub place : IsPlace s.blocks change.extent.0 change.place
+  pub beside : change.extent.0 ≡ p → 8 ≤ change.place
+
+-- What a flush of process p writes has places: its context, its status word, and each changed block beside these.
 pub record HavePlaces (s : Shape) (p : ℕ) (changes : List Change) : Type 0 where
   pub context : (k : ℕ) → k < 8 → IsPlace s.blocks p k
   pub status : IsPlace s.words p 0
-  pub changed : (k : ℕ) (none : Change) → k < length changes → IsPlace s.blocks (slice_index_or changes k none).extent.0 (slice_index_or changes k none).place
-  pub beside : (k : ℕ) (none : Change) → k < length changes → (slice_index_or changes k none).extent.0 ≡ p → 8 ≤ (slice_index_or changes k none).place
+  pub changed : All (IsBeside s p) changes

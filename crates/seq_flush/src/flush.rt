@@ -1,13 +1,14 @@
 // A flush: the changed blocks and the context of a process go to the two copies of each, in two passes.
 ghost use Rattle.std.specs.Prelude.{◌≡◌, ◌+◌, ◌-◌, ◌<◌, ◌≤◌, ◌^◌, length, nat_le};
 ghost use Rattle.seq_layout.specs.Places.{IsPlace};
-ghost use Rattle.seq_layout.specs.Copies.{Matches, copies};
+ghost use Rattle.seq_layout.specs.Shapes.{Shape};
+ghost use Rattle.seq_layout.specs.Copies.{Copies, Matches, copies};
 ghost use Rattle.seq_status.specs.Words.{IsStatus};
 ghost use Rattle.seq_status.specs.declared.step.Step.TheVariants.{Again, Next};
 ghost use Rattle.seq_cache.specs.Changes.{IsCache};
 ghost use Rattle.seq_flush.specs.Units.{HavePlaces};
-ghost use Rattle.seq_flush.specs.Turns.{units, unit_at, into_stage, status_written, unit_written, mark_turn, first_turn, second_turn, close_turn};
-ghost use Rattle.seq_flush.specs.Facts.{FirstKnows, SecondKnows, CloseKnows, ClosedKnows};
+ghost use Rattle.seq_flush.specs.Turns.{units, unit_at, into_stage, status_written, unit_written, mark_turn, first_turn, second_turn, close_turn, taken_in_first};
+ghost use Rattle.seq_flush.specs.Facts.{MarkKnows, FirstKnows, SecondKnows, CloseKnows, ClosedKnows};
 
 use crate::{Close, Closed, First, Mark, Second};
 use seq_cache::{Cache, Change};
@@ -17,7 +18,7 @@ use seq_status::{Holder, Status, Step, to_word};
 use seq_words::{Block, Pid};
 
 /// A flush of the process `pid`, which `holder` holds: its changed blocks and these eight blocks of context.
-#[derive(Clone, Copy)]
+#[derive(Drop)]
 pub struct Flush<S> {
     pub pid: Pid,
     pub holder: Holder,
@@ -91,7 +92,8 @@ impl<S> Flush<S> {
 impl Flush<Mark> {
     /// A flush that begins. The incarnation of `holder` is below 2^48.
     pub fn start(pid: Pid, holder: Holder, context: [Block; 8]) -> Flush<Mark>
-        ensures { result ≡ record { pid = pid; holder = holder; context = context; cursor = 0; stage = record {} } }
+        ensures flush { result ≡ record { pid = pid; holder = holder; context = context; cursor = 0; stage = record {} } }
+        ensures mark { (s : Shape) (p : Copies) → MarkKnows s p result }
     {
         Flush {
             pid,
@@ -119,7 +121,8 @@ impl Flush<Mark> {
         ensures no_unit_written { (copies layout.now memories.new).block ≡ (copies layout.now memories.old).block }
         ensures again { (f : _) → result ≡ Again f → (self.cursor ≡ 0) × (f ≡ record self { cursor = 1 }) }
         ensures next { (f : _) → result ≡ Next f → f ≡ into_stage self (record {}) }
-        ensures first { (f : _) → result ≡ Next f → FirstKnows layout.now (copies layout.now memories.new) cache.now.changes f }
+        ensures mark { (f : _) → result ≡ Again f → MarkKnows layout.now (copies layout.now memories.new) f }
+        ensures first { (f : _) → result ≡ Next f → MarkKnows layout.now (copies layout.now memories.old) self → FirstKnows layout.now (copies layout.now memories.new) cache.now.changes f }
     {
         let status = Status::Pass1(self.holder);
         if self.cursor == 0 {
@@ -160,6 +163,7 @@ impl Flush<First> {
         ensures next { (f : _) → result ≡ Next f → f ≡ into_stage self (record {}) }
         ensures first { (f : _) → result ≡ Again f → FirstKnows layout.now (copies layout.now memories.old) cache.now.changes self → FirstKnows layout.now (copies layout.now memories.new) cache.now.changes f }
         ensures second { (f : _) → result ≡ Next f → FirstKnows layout.now (copies layout.now memories.old) cache.now.changes self → SecondKnows layout.now (copies layout.now memories.new) cache.now.changes f }
+        ensures taken { (f : _) → result ≡ Next f → 10 ≤ taken_in_first self }
     {
         if self.ready(cache) {
             let status = Status::Pass2(self.holder);

@@ -6,7 +6,7 @@ mod laws;
 mod stages;
 
 pub use flush::Flush;
-pub use laws::{standing_survives, word_survives, writing_what_is_left};
+pub use laws::{states_survive, turns_are_counted, turns_know, writing_what_is_left};
 pub use seq_status::Step;
 pub use stages::{Close, Closed, First, Mark, Second};
 

@@ -1,9 +1,8 @@
 // Whole flushes on two memories, turn by turn.
 ghost use Rattle.std.specs.Prelude.{◌≡◌, ℕ, ◌+◌, ◌<◌, ◌≤◌, ◌^◌, [], ◌∷◌, length, IfOk, OnOk};
 ghost use Rattle.seq_words.specs.declared.block.Block.{Block};
-ghost use Rattle.seq_words.specs.Description.{IsDescription};
 ghost use Rattle.seq_layout.specs.Places.{IsPlace};
-ghost use Rattle.seq_layout.specs.Shapes.{Shape, shape_of};
+ghost use Rattle.seq_layout.specs.Shapes.{Shape};
 ghost use Rattle.seq_layout.specs.Copies.{Matches};
 ghost use Rattle.seq_cache.specs.Changes.{put};
 ghost use Rattle.seq_flush.specs.Units.{HavePlaces};
@@ -13,8 +12,9 @@ use crate::{Close, Closed, First, Flush, Mark, Second, Step};
 use seq_cache::Cache;
 use seq_layout::{Extent, Layout, WordAt};
 use seq_memory::{Memories, MemoryElement};
+use seq_samples::two_segments;
 use seq_status::Holder;
-use seq_words::{Block, Bytes, Items, MachineDesc, NoMemory, Pe, Pid, ProcessDesc, SegmentDesc};
+use seq_words::{Block, Items, NoMemory, Pe, Pid};
 use std::alloc::Global;
 
 const HOLDER: Holder = Holder {
@@ -25,52 +25,15 @@ const HOLDER: Holder = Holder {
 // The status word of a process that runs, and is held by that holder.
 const RUNS: u64 = 0x1234_0301;
 
-// A segment of one block of zeros.
-fn segment(alloc: Global) -> SegmentDesc
-    ensures { result ≡ record { size = 32; first = [] } }
+// The layout of two memories, a process of two blocks, and two segments of one block. Of extents 0 and 2, the primaries are
+// on memory 0.
+fn layout(alloc: Global) -> Result<Layout, NoMemory>
+    ensures memories { IfOk result (λ l. l.memories ≡ 2) }
+    ensures blocks { IfOk result (λ l. l.blocks ≡ 10 ∷ 1 ∷ 1 ∷ []) }
+    ensures words { IfOk result (λ l. l.words ≡ 1 ∷ 1 ∷ 1 ∷ []) }
 {
-    SegmentDesc {
-        size: 32,
-        first: Bytes::new(alloc),
-    }
-}
-
-// A process of two blocks of zeros.
-fn process(alloc: Global) -> ProcessDesc
-    ensures { result ≡ record { size = 64; entry = 0; image = []; lines = 0; grants = 0 } }
-{
-    ProcessDesc {
-        size: 64,
-        entry: 0,
-        image: Bytes::new(alloc),
-        lines: 0,
-        grants: 0,
-    }
-}
-
-// Two memories, a process of two blocks, and two segments of one block. Of extents 0 and 2, the primaries are on memory 0.
-fn description(alloc: Global) -> Result<MachineDesc, NoMemory>
-    ensures described { IfOk result IsDescription }
-    ensures memories { IfOk result (λ d. (shape_of d).memories ≡ 2) }
-    ensures blocks { IfOk result (λ d. (shape_of d).blocks ≡ 10 ∷ 1 ∷ 1 ∷ []) }
-    ensures words { IfOk result (λ d. (shape_of d).words ≡ 1 ∷ 1 ∷ 1 ∷ []) }
-{
-    let Ok(processes) = vec![in alloc; process(alloc)] else {
-        return Err(NoMemory);
-    };
-    let Ok(segments) = vec![in alloc; segment(alloc), segment(alloc)] else {
-        return Err(NoMemory);
-    };
-    Ok(MachineDesc {
-        processors: 1,
-        memories: 2,
-        ios: 1,
-        cache: 16,
-        quantum: 1000,
-        journal: 32,
-        segments: Items::from_vec(segments),
-        processes: Items::from_vec(processes),
-    })
+    let desc = two_segments(alloc)?;
+    Layout::new(alloc, &desc)
 }
 
 // Two memories in service, each with room for a copy of all of that machine.
@@ -314,8 +277,7 @@ fn new_machine(alloc: Global) -> Result<Machine, NoMemory>
     ensures blocks { IfOk result (λ b. b.layout.blocks ≡ 10 ∷ 1 ∷ 1 ∷ []) }
     ensures words { IfOk result (λ b. b.layout.words ≡ 1 ∷ 1 ∷ 1 ∷ []) }
 {
-    let desc = description(alloc)?;
-    let layout = Layout::new(alloc, &desc)?;
+    let layout = layout(alloc)?;
     let memories = two_memories(alloc, &layout)?;
     let cache = three_changes(alloc)?;
     Ok(Machine {

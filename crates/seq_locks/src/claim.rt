@@ -2,15 +2,16 @@
 ghost use Rattle.std.specs.Prelude.{◌≡◌, ◌≢◌, ◌<◌, ◌↔◌, true, false, Some, OnOk, OnErr, IsErr, IfErr};
 ghost use Rattle.seq_layout.specs.Places.{IsPlace};
 ghost use Rattle.seq_layout.specs.Copies.{Matches, copies, word_written};
+ghost use Rattle.seq_layout.specs.Held.{Holds};
 ghost use Rattle.seq_locks.specs.Turns.{claim_primary, claim_shadow, is_taken, word_at};
-ghost use Rattle.seq_locks.specs.Facts.{Holds, BothHold};
+ghost use Rattle.seq_locks.specs.Facts.{BothHold};
 
 use crate::{Held, Primary, Shadow};
 use seq_layout::{Layout, WordAt};
 use seq_memory::Memories;
 
 /// A claim of the word `at`, which is 0 where it is free, for the claimant whose value isn't 0.
-#[derive(Clone, Copy, Debug)]
+#[derive(Drop, Debug)]
 pub struct Claim<S> {
     pub at: WordAt,
     pub value: u64,
@@ -18,7 +19,7 @@ pub struct Claim<S> {
 }
 
 /// What a turn of a claim answers: it goes on, or the word that was tested isn't free.
-#[derive(Clone, Copy, Debug, PartialEq, Eq)]
+#[derive(Drop, Debug, PartialEq, Eq)]
 pub enum Claimed<T> {
     Got(T),
     /// The value that was seen.
@@ -62,7 +63,7 @@ impl Claim<Primary> {
     }
 
     /// Tests and sets the primary. Refused exactly where it is in service and isn't 0; then nothing changes.
-    #[tactic(auto, using(crate::proofs::Knows::written_holds), unfolding(crate::specs::Turns::claim_primary))]
+    #[tactic(auto, using(seq_layout::proofs::Held::word_holds), unfolding(crate::specs::Turns::claim_primary))]
     pub fn turn(self, memories: &mut Memories, layout: &Layout) -> Claimed<Claim<Shadow>>
         requires matches { Matches layout.now memories.old }
         requires place { IsPlace layout.now.words self.at.extent.0 self.at.word }

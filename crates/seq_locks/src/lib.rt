@@ -2,12 +2,10 @@
 #![tactic(auto)]
 
 mod claim;
-mod laws;
 mod release;
 mod stages;
 
 pub use claim::{Claim, Claimed};
-pub use laws::word_facts_survive;
 pub use release::Release;
 pub use stages::{Free, Held, Primary, Shadow};
 

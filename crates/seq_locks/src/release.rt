@@ -2,15 +2,16 @@
 ghost use Rattle.std.specs.Prelude.{◌≡◌, true, false};
 ghost use Rattle.seq_layout.specs.Places.{IsPlace};
 ghost use Rattle.seq_layout.specs.Copies.{Matches, copies};
+ghost use Rattle.seq_layout.specs.Held.{Holds};
 ghost use Rattle.seq_locks.specs.Turns.{release_shadow, release_primary, word_at};
-ghost use Rattle.seq_locks.specs.Facts.{Holds, BothHold};
+ghost use Rattle.seq_locks.specs.Facts.{BothHold};
 
 use crate::{Free, Primary, Shadow};
 use seq_layout::{Layout, WordAt};
 use seq_memory::Memories;
 
 /// A release of the word `at`.
-#[derive(Clone, Copy, Debug)]
+#[derive(Drop, Debug)]
 pub struct Release<S> {
     pub at: WordAt,
     pub stage: S,
@@ -25,7 +26,7 @@ impl Release<Shadow> {
     }
 
     /// Frees the shadow, where it is in service.
-    #[tactic(auto, using(crate::proofs::Knows::written_holds), unfolding(crate::specs::Turns::release_shadow))]
+    #[tactic(auto, using(seq_layout::proofs::Held::word_holds), unfolding(crate::specs::Turns::release_shadow))]
     pub fn turn(self, memories: &mut Memories, layout: &Layout) -> Release<Primary>
         requires matches { Matches layout.now memories.old }
         requires place { IsPlace layout.now.words self.at.extent.0 self.at.word }
@@ -45,7 +46,7 @@ impl Release<Shadow> {
 
 impl Release<Primary> {
     /// Frees the primary, where it is in service. The shadow stays as it is.
-    #[tactic(auto, using(crate::proofs::Knows::written_holds, crate::proofs::Knows::shadow_as_before), unfolding(crate::specs::Turns::release_primary))]
+    #[tactic(auto, using(seq_layout::proofs::Held::word_holds, seq_layout::proofs::Held::shadow_word_stays), unfolding(crate::specs::Turns::release_primary))]
     pub fn turn(self, memories: &mut Memories, layout: &Layout) -> Free
         requires matches { Matches layout.now memories.old }
         requires place { IsPlace layout.now.words self.at.extent.0 self.at.word }

@@ -1,14 +1,13 @@
 // Claims and releases of the status word of a process, on two memories of which either may be away.
 ghost use Rattle.std.specs.Prelude.{◌≡◌, ◌≢◌, [], ◌∷◌, IfOk};
-ghost use Rattle.seq_words.specs.Description.{IsDescription};
 ghost use Rattle.seq_layout.specs.Places.{IsPlace};
-ghost use Rattle.seq_layout.specs.Shapes.{shape_of};
 ghost use Rattle.seq_layout.specs.Copies.{Matches};
 
 use crate::{Claim, Claimed, Held, Release};
 use seq_layout::{Extent, Layout, WordAt};
 use seq_memory::{Memories, MemoryElement};
-use seq_words::{Bytes, Items, MachineDesc, NoMemory, ProcessDesc};
+use seq_samples::lone_process;
+use seq_words::{Items, NoMemory};
 use std::alloc::Global;
 
 const STATUS: WordAt = WordAt {
@@ -16,33 +15,14 @@ const STATUS: WordAt = WordAt {
     word: 0,
 };
 
-// Two memories, and one process of 32 bytes with no line.
-fn machine(alloc: Global) -> Result<MachineDesc, NoMemory>
-    ensures described { IfOk result IsDescription }
-    ensures memories { IfOk result (λ d. (shape_of d).memories ≡ 2) }
-    ensures blocks { IfOk result (λ d. (shape_of d).blocks ≡ 9 ∷ []) }
-    ensures words { IfOk result (λ d. (shape_of d).words ≡ 1 ∷ []) }
+// The layout of two memories, and of one process of 32 bytes with no line.
+fn layout(alloc: Global) -> Result<Layout, NoMemory>
+    ensures memories { IfOk result (λ l. l.memories ≡ 2) }
+    ensures blocks { IfOk result (λ l. l.blocks ≡ 9 ∷ []) }
+    ensures words { IfOk result (λ l. l.words ≡ 1 ∷ []) }
 {
-    let process = ProcessDesc {
-        size: 32,
-        entry: 0,
-        image: Bytes::new(alloc),
-        lines: 0,
-        grants: 0,
-    };
-    let Ok(processes) = vec![in alloc; process] else {
-        return Err(NoMemory);
-    };
-    Ok(MachineDesc {
-        processors: 1,
-        memories: 2,
-        ios: 1,
-        cache: 16,
-        quantum: 1000,
-        journal: 32,
-        segments: Items::new(alloc),
-        processes: Items::from_vec(processes),
-    })
+    let desc = lone_process(alloc)?;
+    Layout::new(alloc, &desc)
 }
 
 // Two memories in service, each with room for a copy of the process.
@@ -139,8 +119,7 @@ fn value(memories: &Memories, layout: &Layout, shadow: bool) -> Option<u64>
 
 #[test]
 fn a_word_that_is_taken_refuses_a_claim(rt: HostRuntime) -> Result<(), NoMemory> {
-    let desc = machine(rt.alloc())?;
-    let layout = Layout::new(rt.alloc(), &desc)?;
+    let layout = layout(rt.alloc())?;
     let mut memories = two_memories(rt.alloc(), &layout)?;
     layout.write_word(&mut memories, STATUS, false, 2);
     let refused = claim(&mut memories, &layout, 1, false, When::Never);
@@ -159,8 +138,7 @@ fn a_word_that_is_taken_refuses_a_claim(rt: HostRuntime) -> Result<(), NoMemory>
 // release that follows.
 #[test]
 fn a_word_is_claimed_and_released(rt: HostRuntime) -> Result<(), NoMemory> {
-    let desc = machine(rt.alloc())?;
-    let layout = Layout::new(rt.alloc(), &desc)?;
+    let layout = layout(rt.alloc())?;
     for (shadow, when, claimed) in [
         (false, When::Never, (Some(7), Some(7))),
         (false, When::BeforeFirst, (None, Some(7))),
@@ -184,8 +162,7 @@ fn a_word_is_claimed_and_released(rt: HostRuntime) -> Result<(), NoMemory> {
 
 #[test]
 fn a_release_goes_on_where_a_memory_fails(rt: HostRuntime) -> Result<(), NoMemory> {
-    let desc = machine(rt.alloc())?;
-    let layout = Layout::new(rt.alloc(), &desc)?;
+    let layout = layout(rt.alloc())?;
     for (shadow, when, freed) in [
         (false, When::BeforeFirst, (None, Some(0))),
         (false, When::BeforeSecond, (None, Some(0))),

@@ -1,10 +1,10 @@
-use Rattle.std.proofs.Common.{◌≡◌, ℕ, zero, suc, ◌<◌, ◌≤◌, List, [], ◌∷◌, get_or, arith, refl, ap, ◌∙◌}
+use Rattle.std.proofs.Common.{◌≡◌, ℕ, zero, suc, ◌<◌, List, [], ◌∷◌, get_or, arith, refl, ap, ◌∙◌}
 use Rattle.seq_words.specs.declared.block.Block.{Block}
 use Rattle.seq_layout.specs.Places.{IsPlace}
 use Rattle.seq_layout.specs.Shapes.{Shape}
 use Rattle.seq_cache.specs.declared.change.Change.{Change}
 use Rattle.seq_cache.specs.Changes.{Changes, change, put}
-use Rattle.seq_flush.specs.Units.{HavePlaces}
+use Rattle.seq_flush.specs.Units.{IsBeside, HavePlaces}
 use Rattle.seq_flush.proofs.tests.three_changes.Goals as goal
 
 abbrev three : Block → Block → Block → List Change
@@ -19,20 +19,16 @@ have_places s a b c blocks words = record {
   context = λ k few. rw blocks (record { extent_in = omega arith; part_in = omega arith });
   status = rw words (record { extent_in = omega arith; part_in = omega arith });
   changed = changed;
-  beside = beside;
 }
   where
-    changed : (k : ℕ) (none : Change) → k < 3 → IsPlace s.blocks (get_or (three a b c) k none).extent.0 (get_or (three a b c) k none).place
-    changed zero none within = rw blocks (record { extent_in = omega arith; part_in = omega arith })
-    changed (suc zero) none within = rw blocks (record { extent_in = omega arith; part_in = omega arith })
-    changed (suc (suc zero)) none within = rw blocks (record { extent_in = omega arith; part_in = omega arith })
-    changed (suc (suc (suc k))) none within = absurd (omega arith)
+    place : (e n : ℕ) → IsPlace (10 ∷ 1 ∷ 1 ∷ []) e n → IsPlace s.blocks e n
+    place e n inside = rw blocks inside
 
-    beside : (k : ℕ) (none : Change) → k < 3 → (get_or (three a b c) k none).extent.0 ≡ 0 → 8 ≤ (get_or (three a b c) k none).place
-    beside zero none within here = omega arith
-    beside (suc zero) none within here = omega arith
-    beside (suc (suc zero)) none within here = absurd (omega arith)
-    beside (suc (suc (suc k))) none within here = absurd (omega arith)
+    changed : (k : ℕ) (none : Change) → k < 3 → IsBeside s 0 (get_or (three a b c) k none)
+    changed zero none within = record { place = place 0 8 (record { extent_in = omega arith; part_in = omega arith }); beside = λ here. omega arith }
+    changed (suc zero) none within = record { place = place 0 9 (record { extent_in = omega arith; part_in = omega arith }); beside = λ here. omega arith }
+    changed (suc (suc zero)) none within = record { place = place 2 0 (record { extent_in = omega arith; part_in = omega arith }); beside = λ here. absurd (omega arith) }
+    changed (suc (suc (suc k))) none within = absurd (omega arith)
 
 pub returns : goal.returns
 returns c s blocks words =
