@@ -3,11 +3,11 @@ use Rattle.std.proofs.Common.{◌≡◌, ◌≢◌, ℕ, ◌+◌, ◌/◌, ◌^�
 use Rattle.std.proofs.lemmas.Bool.{le-ltb}
 use Rattle.seq_words.specs.Masks.{has_bit}
 use Rattle.seq_words.specs.declared.description.MachineDesc.{MachineDesc}
+use Rattle.seq_words.specs.Description.{process_of}
 use Rattle.seq_flat.specs.Memory.{bytes_from}
 use Rattle.seq_layout.specs.Copies.{Copies}
 use Rattle.seq_process.specs.declared.running.Running.{Running}
 use Rattle.seq_cache.specs.Changes.{Changes}
-use Rattle.seq_segments.specs.Map.{process_of}
 use Rattle.seq_kernel.specs.declared.outcomes.Outcome.TheVariants.{Done, NeedsFlush, Diverged}
 use Rattle.seq_kernel.specs.declared.outcomes.Cause.TheVariants.{Room}
 use Rattle.seq_kernel.specs.Views.{read_by, seen}

@@ -116,7 +116,6 @@ module _ (m : Memories) (a b : MemoryElement) (is : IsPairOf m a b) where
       record {
         served = λ e. pair_serves t s two e (first_copy t p e);
         counts = λ l. rw journal (pair_small s (line_extent t l) 0 (first_copy t p (line_extent t l)));
-        sent = λ l. omega (arith, pair_small s (line_extent t l) 2 (first_copy t p (line_extent t l)));
       }
 
 -- four positions of which the last three are 0

@@ -1,13 +1,15 @@
 -- The blocks and words that a call reads and writes are places of its machine.
-use Rattle.std.proofs.Common.{◌≡◌, ℕ, ◌+◌, ◌-◌, ◌/◌, ◌%◌, ◌<◌, ◌≤◌, Bool, true, false, ◌&&◌, if◌then◌else◌, nat_lt, length, Some, None, Option, refl, subst, arith}
+use Rattle.std.proofs.Common.{◌≡◌, ℕ, ◌+◌, ◌-◌, ◌/◌, ◌%◌, ◌<◌, ◌≤◌, Bool, true, false, ◌&&◌, if◌then◌else◌, nat_lt, length, Some, None, Option, inl, inr, refl, sym, ◌∙◌, ap, subst, arith}
 use Rattle.std.specs.Prelude.{count_ones}
-use Rattle.std.proofs.lemmas.Bool.{ltb-true, and_parts}
+use Rattle.std.proofs.lemmas.Bool.{cases_lt, ltb-true, and_parts, false≢true}
+use Rattle.std.proofs.lemmas.List.{get_or_past}
+use Rattle.std.proofs.lemmas.Nat.Bits.{bit_at-zero}
 use Rattle.std.proofs.lemmas.Bool.Decides.{nat_tests}
 use Rattle.std.proofs.lemmas.List.Elements.{All-get_or}
 use Rattle.std.proofs.lemmas.List.FromFn.{length-map-range_with_len}
 use Rattle.std.proofs.lemmas.List.Sums.{get_or-le-sum_by}
 use Rattle.seq_words.specs.Masks.{has_bit}
-use Rattle.seq_words.specs.Description.{IsDescription, IsProcess, IsSegment, line_count}
+use Rattle.seq_words.specs.Description.{IsDescription, IsProcess, IsSegment, line_count, process_of, segment_of, no_process, no_segment}
 use Rattle.seq_words.specs.declared.description.MachineDesc.{MachineDesc}
 use Rattle.seq_words.specs.declared.description.ProcessDesc.{ProcessDesc}
 use Rattle.seq_layout.specs.declared.extents.Extent.{Extent}
@@ -15,7 +17,7 @@ use Rattle.seq_layout.specs.Places.{IsPlace}
 use Rattle.seq_layout.specs.Shapes.{Shape, shape_of, index_of, owner_from, line_extent}
 use Rattle.seq_layout.proofs.Owners.{index_below}
 use Rattle.seq_layout.proofs.Sizes.{process_has_blocks, segment_has_blocks, line_has_blocks}
-use Rattle.seq_segments.specs.Map.{process_of, segment_of, no_process, no_segment, before_private, mapped}
+use Rattle.seq_segments.specs.Map.{before_private, mapped}
 use Rattle.seq_kernel.specs.Outboxes.{outbox_block}
 
 -- a process and a segment of the description
@@ -30,6 +32,16 @@ pub line_below : (d : MachineDesc) (p l : ℕ) → IsDescription d → p < lengt
 line_below d p l is below owned =
     let some = get_or-le-sum_by (λ (q : ProcessDesc). if has_bit q.lines l then 1 else 0) d.processes p no_process below in
     grind (arith, nat_tests, some, is.lines l)
+
+-- the lines of a process are among the sixteen
+pub lines_are_few : (d : MachineDesc) → IsDescription d → (p l : ℕ) → has_bit (process_of d p).lines l ≡ true → l < 16
+lines_are_few d is p l owned = elim (cases_lt p (length d.processes)) [
+  | inl below ↦ (let known = line_below d p l is below owned in omega (arith, known, is.few_lines))
+  | inr past ↦
+      let none : process_of d p ≡ no_process = get_or_past d.processes p no_process past in
+      let clear : has_bit 0 l ≡ false = rw (bit_at-zero l) refl in
+      absurd (false≢true (sym clear ∙ ap (λ (q : ProcessDesc). has_bit q.lines l) (sym none) ∙ owned))
+]
 
 -- and has a number below how many it owns, at most three
 pub index_few : (d : MachineDesc) (p l : ℕ) → IsDescription d → p < length d.processes → has_bit (process_of d p).lines l ≡ true → index_of (process_of d p).lines l < count_ones (process_of d p).lines

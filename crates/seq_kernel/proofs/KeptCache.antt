@@ -5,7 +5,7 @@ use Rattle.std.proofs.lemmas.Bool.{cond_both, and_parts, true_from_ne_false}
 use Rattle.std.proofs.lemmas.List.Elements.{All-head, All-tail}
 use Rattle.std.proofs.lemmas.Option.{none-some, same_Some}
 use Rattle.seq_words.specs.Masks.{has_bit}
-use Rattle.seq_words.specs.Description.{IsDescription}
+use Rattle.seq_words.specs.Description.{IsDescription, process_of, segment_of}
 use Rattle.seq_words.specs.declared.description.MachineDesc.{MachineDesc}
 use Rattle.seq_isa.specs.Meaning.{Outcome, moves}
 use Rattle.seq_rv32.specs.declared.port.Admit.{Admit}
@@ -20,7 +20,7 @@ use Rattle.seq_cache.specs.Changes.{Changes, IsCache, admits, with_change}
 use Rattle.seq_cache.specs.Overlay.{overlay}
 use Rattle.seq_cache.proofs.LawsHold.{admitted_fits}
 use Rattle.seq_cache.proofs.Puts.{All-put}
-use Rattle.seq_segments.specs.Map.{process_of, segment_of, before_private, mapped}
+use Rattle.seq_segments.specs.Map.{before_private, mapped}
 use Rattle.seq_kernel.specs.Views.{Blocks, read_by, block_stored, admission_at, admission, stored_at, stored, with_store}
 use Rattle.seq_kernel.specs.Outboxes.{outbox_block, filled_block, touched_count, touched_block, touched, needed, blocks_filled, outbox_filled}
 use Rattle.seq_kernel.specs.Bounds.{IsRunning}
@@ -70,7 +70,7 @@ module _ (d : MachineDesc) (r : Running) (c : Changes) (described : IsDescriptio
   at_own : (o : Blocks) (a : ℕ) (at : Option (Extent × ℕ)) (width value : ℕ) → mapped d r.pid.0 r.held a ≡ at → AreOwn d r c.changes → AreOwn d r (stored_at o c at width value).changes
   at_own o a (Some at) width value is own =
       All-put (IsOwn d r.pid.0 r.held) c.changes at.0.0 (at.1 / 32) (block_stored (o at.0.0 (at.1 / 32)) (at.1 % 32) width value)
-      (record { place = mapped_place d (shape_of d) r.pid.0 r.held a at described refl running.process is; owned = mapped_owned d r a at is }) own
+      (record { place = mapped_place d (shape_of d) r.pid.0 r.held a at described refl running.within.process is; owned = mapped_owned d r a at is }) own
   at_own o a None width value is own = own
 
   -- the store of an instruction
@@ -93,7 +93,7 @@ module _ (d : MachineDesc) (r : Running) (c : Changes) (described : IsDescriptio
       let small : k < 8 = All-head (λ (k : ℕ). k < 8) k ks below in
       filled_own o index from bytes ks (with_change c r.pid.0 (outbox_block index k) b) few (All-tail (λ (k : ℕ). k < 8) k ks below)
       (All-put (IsOwn d r.pid.0 r.held) c.changes r.pid.0 (outbox_block index k) b
-      (record { place = outbox_place d (shape_of d) r.pid.0 index k described refl running.process few small; owned = inl (refl, omega arith) }) own)
+      (record { place = outbox_place d (shape_of d) r.pid.0 index k described refl running.within.process few small; owned = inl (refl, omega arith) }) own)
 
   pub outbox_own : (o : Blocks) (index from : ℕ) (bytes : List ℕ) → index < count_ones (process_of d r.pid.0).lines → AreOwn d r c.changes → AreOwn d r (outbox_filled o c r.pid.0 index from bytes).changes
   outbox_own o index from bytes few own = filled_own o index from bytes (touched from (length bytes)) c few (touched_below from (length bytes)) own
@@ -108,7 +108,7 @@ module _ (s : Shape) (p : Copies) (c : Changes) (e index from : ℕ) (bytes : Li
 
   -- each of them has room
   filling : (i : ℕ) → i ≤ count → (after : Changes) × IsFilling s p c after e index from bytes count i
-  filling zero le = (c, filling_begins s p c e index from bytes count is refl room)
+  filling zero le = (c, filling_begins s p c e index from bytes count is refl few room)
   filling (suc i) le =
       let (before, holds) = filling i (omega arith) in
       let k = touched_block from i in

@@ -5,18 +5,17 @@ use Rattle.std.proofs.lemmas.Bool.{cond_both, and_parts, not-false, ltb-true, lt
 use Rattle.std.proofs.lemmas.List.{length_push}
 use Rattle.std.proofs.lemmas.Option.{none-some, same_Some, option_and_then_some}
 use Rattle.seq_words.specs.Masks.{has_bit}
-use Rattle.seq_words.specs.Description.{IsDescription}
+use Rattle.seq_words.specs.Description.{IsDescription, process_of}
 use Rattle.seq_words.specs.declared.description.MachineDesc.{MachineDesc}
 use Rattle.seq_isa.specs.Meaning.{Bytes, register}
 use Rattle.seq_flat.specs.declared.state.End.{End}
-use Rattle.seq_flat.specs.declared.state.End.TheVariants.{Live, Exited}
+use Rattle.seq_flat.specs.declared.state.End.TheVariants.{Exited}
 use Rattle.seq_flat.specs.Memory.{bytes_from}
 use Rattle.seq_flat.specs.Calls.{minus}
 use Rattle.seq_layout.specs.Shapes.{shape_of}
 use Rattle.seq_layout.specs.Copies.{Copies}
 use Rattle.seq_process.specs.declared.running.Running.{Running}
 use Rattle.seq_cache.specs.Changes.{Changes, IsCache}
-use Rattle.seq_segments.specs.Map.{process_of}
 use Rattle.seq_kernel.specs.declared.outcomes.Outcome.{Outcome}
 use Rattle.seq_kernel.specs.declared.outcomes.Outcome.TheVariants.{Done, Claim, NeedsFlush, Waits, Diverged}
 use Rattle.seq_kernel.specs.declared.outcomes.Cause.TheVariants as cause
@@ -27,9 +26,9 @@ use Rattle.seq_kernel.specs.Turns.{Turned, stays, answered, ended}
 use Rattle.seq_kernel.specs.Calls.{answers, lines_of, line_index, line_word, journal_byte, acquire, release, read_next, read, put_out, written, write, numbered, agree_on_call, call_of}
 use Rattle.seq_kernel.specs.Bounds.{IsRunning, AreReadable}
 use Rattle.seq_kernel.specs.Refinement.{takes_step}
-use Rattle.seq_kernel.specs.Kept.{HasZero, KeepsBounds, AreOwn, keeps_segments, KeepsCache}
+use Rattle.seq_kernel.specs.Kept.{HasZeros, KeepsBounds, AreOwn, keeps_segments, KeepsCache}
 use Rattle.seq_kernel.proofs.CallPlaces.{index_few, own_lines_few}
-use Rattle.seq_kernel.proofs.KeptRunning.{within, runs, answered_zero, answered_within, ended_within, read_running, written_running, released_running}
+use Rattle.seq_kernel.proofs.KeptRunning.{answered_zeros, answered_within, ended_within, read_running, written_running, released_running}
 use Rattle.seq_kernel.proofs.KeptCache.{outbox_cached, outbox_own}
 
 -- no more bytes are found than are asked for
@@ -54,9 +53,8 @@ pub stays_keeps : (d : MachineDesc) (r : Running) (c : Changes) (o : Outcome) �
 stays_keeps d r c o is none = record {
   bounds = record {
     unchanged = λ _. record { running = refl; cache = refl };
-    within = within d r is;
-    running = λ step. absurd (none step);
-    zero = λ zero. zero;
+    within = is.within;
+    zeros = λ zeros. zeros;
     process = refl;
     commits = refl;
   };
@@ -64,13 +62,12 @@ stays_keeps d r c o is none = record {
 }
 
 -- the process ends
-pub ended_keeps : (d : MachineDesc) (r : Running) (c : Changes) (o : Outcome) (end : End) → IsRunning d r → takes_step o → (keeps_segments o → ⊥) → (end ≡ Live → ⊥) → Keeps d r c (record { outcome = o; running = ended r end; cache = c })
-ended_keeps d r c o end is step gives dead = record {
+pub ended_keeps : (d : MachineDesc) (r : Running) (c : Changes) (o : Outcome) (end : End) → IsRunning d r → takes_step o → (keeps_segments o → ⊥) → Keeps d r c (record { outcome = o; running = ended r end; cache = c })
+ended_keeps d r c o end is step gives = record {
   bounds = record {
     unchanged = λ none. absurd (none step);
     within = ended_within d r end is;
-    running = λ _. λ lives. absurd (dead lives);
-    zero = λ zero. zero;
+    zeros = λ zeros. zeros;
     process = refl;
     commits = refl;
   };
@@ -78,14 +75,13 @@ ended_keeps d r c o end is step gives dead = record {
 }
 
 -- A call is answered, by a process that has changed before in its positions, in what it holds or in its cache.
-answered_keeps : (d : MachineDesc) (r : Running) (c : Changes) (o : Outcome) (before : Running) (after : Changes) (answer : ℕ) → takes_step o → IsRunning d before → (HasZero r.pair → HasZero before.pair) → before.pid ≡ r.pid → before.commits ≡ r.commits
+answered_keeps : (d : MachineDesc) (r : Running) (c : Changes) (o : Outcome) (before : Running) (after : Changes) (answer : ℕ) → takes_step o → IsRunning d before → (HasZeros r.pair → HasZeros before.pair) → before.pid ≡ r.pid → before.commits ≡ r.commits
     → (IsCache c → IsCache after) → (AreOwn d r c.changes → AreOwn d r after.changes) → (keeps_segments o → AreOwn d r c.changes → AreOwn d before after.changes) → Keeps d r c (record { outcome = o; running = answered before answer; cache = after })
 answered_keeps d r c o before after answer step is zeros same counts cached held owned = record {
   bounds = record {
     unchanged = λ none. absurd (none step);
     within = answered_within d before answer is;
-    running = λ _. λ _. λ left. runs d (answered before answer) (answered_within d before answer is) is.live left;
-    zero = λ zero. answered_zero before answer (zeros zero);
+    zeros = λ was. answered_zeros before answer (zeros was);
     process = same;
     commits = counts;
   };
@@ -94,7 +90,7 @@ answered_keeps d r c o before after answer step is zeros same counts cached held
 
 -- an answer alone
 answer_keeps : (d : MachineDesc) (r : Running) (c : Changes) (o : Outcome) (answer : ℕ) → takes_step o → IsRunning d r → Keeps d r c (record { outcome = o; running = answered r answer; cache = c })
-answer_keeps d r c o answer step is = answered_keeps d r c o r c answer step is (λ zero. zero) refl refl (λ is. is) (λ own. own) (λ _. λ own. own)
+answer_keeps d r c o answer step is = answered_keeps d r c o r c answer step is (λ zeros. zeros) refl refl (λ is. is) (λ own. own) (λ _. λ own. own)
 
 module _ (d : MachineDesc) (p : Copies) (r : Running) (c : Changes) (described : IsDescription d) (readable : AreReadable d p) (running : IsRunning d r) where
   refuses : (answer : ℕ) → Keeps d r c (answers r c answer)
@@ -112,22 +108,22 @@ module _ (d : MachineDesc) (p : Copies) (r : Running) (c : Changes) (described :
   unfolding release
   release_keeps t =
       cond_both (nat_lt t (length d.segments) && has_bit r.held t) _ _ (Keeps d r c)
-      (λ held. answered_keeps d r c (NeedsFlush (cause.Release (record { 0 = t }))) (record r { held = r.held - 2 ^ t }) c 0 tt (released_running d r t running (and_parts (nat_lt t (length d.segments)) (has_bit r.held t) held).1) (λ zero. zero) refl refl (λ is. is) (λ own. own) (λ none. absurd none))
+      (λ held. answered_keeps d r c (NeedsFlush (cause.Release (record { 0 = t }))) (record r { held = r.held - 2 ^ t }) c 0 tt (released_running d r t running (and_parts (nat_lt t (length d.segments)) (has_bit r.held t) held).1) (λ zeros. zeros) refl refl (λ is. is) (λ own. own) (λ none. absurd none))
       (λ _. refuses (minus 1))
 
   -- a line of the process has one of its four numbers
   module _ (l : ℕ) (own : has_bit (lines_of d r) l ≡ true) where
     number_few : line_index d r l < count_ones (process_of d r.pid.0).lines
-    number_few = index_few d r.pid.0 l described running.process own
+    number_few = index_few d r.pid.0 l described running.within.process own
 
     number_of_four : line_index d r l < 4
-    number_of_four = omega (arith, number_few, own_lines_few d r.pid.0 described running.process)
+    number_of_four = omega (arith, number_few, own_lines_few d r.pid.0 described running.within.process)
 
     next_keeps : slice_index r.reads (line_index d r l) < line_word d p l 0 → Keeps d r c (read_next d p r c l)
     next_keeps more =
         let i = line_index d r l in
         let at = slice_index r.reads i in
-        answered_keeps d r c Done (record r { reads = slice_set r.reads i (at + 1) }) c (journal_byte d p l at) tt (read_running d r i (at + 1) running number_of_four (omega (arith, readable.counts l))) (λ zero. zero) refl refl (λ is. is) (λ own. own) (λ _. λ own. own)
+        answered_keeps d r c Done (record r { reads = slice_set r.reads i (at + 1) }) c (journal_byte d p l at) tt (read_running d r i (at + 1) running number_of_four (omega (arith, readable.counts l))) (λ zeros. zeros) refl refl (λ is. is) (λ own. own) (λ _. λ own. own)
 
     put_keeps : (bytes : List ℕ) → length bytes ≤ 64 → Keeps d r c (put_out d p r c l bytes)
     put_keeps bytes few =
@@ -138,7 +134,7 @@ module _ (d : MachineDesc) (p : Copies) (r : Running) (c : Changes) (described :
         cond_both (nat_lt c.capacity (length c.changes + needed c r.pid.0 i from (length bytes))) _ _ (Keeps d r c) (λ _. stays_keeps d r c (NeedsFlush cause.Room) running (λ none. none)) (λ room.
         answered_keeps d r c Done (record r { writes = slice_set r.writes i (from + length bytes) }) (outbox_filled (read_by d p c) c r.pid.0 i from bytes) (length bytes) tt
         (written_running d r i (from + length bytes) running number_of_four (ltb-false 1048576 (from + length bytes) within))
-        (λ zero. zero) refl refl
+        (λ zeros. zeros) refl refl
         (λ is. outbox_cached (shape_of d) p c r.pid.0 i from bytes is few (ltb-false c.capacity (length c.changes + needed c r.pid.0 i from (length bytes)) room))
         (λ own. outbox_own d r c described running (read_by d p c) i from bytes number_few own)
         (λ _. λ own. outbox_own d r c described running (read_by d p c) i from bytes number_few own))))
@@ -166,7 +162,7 @@ module _ (d : MachineDesc) (p : Copies) (r : Running) (c : Changes) (described :
   numbered_keeps : (x : ℕ → ℕ) → Keeps d r c (numbered d p r c x)
   unfolding numbered
   numbered_keeps x =
-      cond_both (x 17 == 0) _ _ (Keeps d r c) (λ _. ended_keeps d r c (NeedsFlush cause.Exit) (Exited (x 10)) running tt (λ none. none) (λ e. cc)) (λ _.
+      cond_both (x 17 == 0) _ _ (Keeps d r c) (λ _. ended_keeps d r c (NeedsFlush cause.Exit) (Exited (x 10)) running tt (λ none. none)) (λ _.
       cond_both (x 17 == 1) _ _ (Keeps d r c) (λ _. acquire_keeps (x 10)) (λ _.
       cond_both (x 17 == 2) _ _ (Keeps d r c) (λ _. release_keeps (x 10)) (λ _.
       cond_both (x 17 == 3) _ _ (Keeps d r c) (λ _. read_keeps (x 10)) (λ _.

@@ -1,8 +1,8 @@
+pub mod RefineStepsTaken
 pub mod RefineStepsSeen
 pub mod RefineStepsPair
 pub mod RefineStepsOutcomes
 pub mod RefineStepsBytes
-pub mod RefineStepsFlat
 pub mod RefineStepsStores
 pub mod RefineStepsInstruction
 pub mod RefineStepsTrap
@@ -20,6 +20,7 @@ pub mod RefineCallsGrants
 pub mod RefineSteps
 pub mod RefineCallsTurns
 pub mod CallPlaces
+pub mod OutboxTouched
 pub mod OutboxFills
 pub mod ViewMapped
 pub mod ViewBytes
@@ -27,8 +28,16 @@ pub mod ViewSeen
 pub mod ViewStores
 pub mod CallCases
 pub mod KeptRunning
-pub mod KeptRegisters
 pub mod KeptCache
 pub mod KeptCalls
 pub mod KeptSteps
 pub mod CallMachines
+pub mod CountedTurns
+pub mod Owners
+pub mod Agreed
+pub mod Causes
+pub mod Areas
+pub mod Shown
+pub mod Depends
+pub mod TurnCauses
+pub mod Halves

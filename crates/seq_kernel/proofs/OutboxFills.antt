@@ -13,6 +13,7 @@ use Rattle.seq_cache.specs.Changes.{Changes, IsCache, admits, changed, put, with
 use Rattle.seq_cache.specs.Overlay.{overlay}
 use Rattle.seq_cache.proofs.LawsHold.{put_changes_one_block, put_adds_new_blocks, admitted_fits}
 use Rattle.seq_kernel.specs.Outboxes.{outbox_block, filled_byte, filled_block, touched_count, touched_block, touched, needed, blocks_filled, outbox_filled}
+use Rattle.seq_kernel.proofs.OutboxTouched.{touched_is}
 
 -- a block whose bytes are those of the filled block
 pub filled_is : (from : ℕ) (bytes : List ℕ) (k : ℕ) (b filled : Block) → length filled.bytes ≡ 32 → ((j : ℕ) → j < 32 → get_or filled.bytes j 0 ≡ filled_byte from bytes k b j) → filled ≡ filled_block from bytes k b
@@ -45,9 +46,9 @@ pub record IsFilling (s : Shape) (p : Copies) (c₀ c : Changes) (e index from :
   pub room : length c.changes + count_by (is_new c₀ e index) (touched_from from i n) ≤ c₀.capacity
   pub rest : blocks_filled (overlay s p c₀.changes) c e index from bytes (touched_from from i n) ≡ outbox_filled (overlay s p c₀.changes) c₀ e index from bytes
 
-pub filling_begins : (s : Shape) (p : Copies) (c₀ : Changes) (e index from : ℕ) (bytes : List ℕ) (n : ℕ) → IsCache c₀ → n ≡ touched_count from (length bytes) → length c₀.changes + needed c₀ e index from (length bytes) ≤ c₀.capacity → IsFilling s p c₀ c₀ e index from bytes n 0
-filling_begins s p c₀ e index from bytes n is count room =
-    let all : touched_from from 0 n ≡ touched from (length bytes) = ap (λ (m : ℕ). map (touched_block from) (range_with_len 0 m)) (omega arith) in
+pub filling_begins : (s : Shape) (p : Copies) (c₀ : Changes) (e index from : ℕ) (bytes : List ℕ) (n : ℕ) → IsCache c₀ → n ≡ touched_count from (length bytes) → length bytes ≤ 64 → length c₀.changes + needed c₀ e index from (length bytes) ≤ c₀.capacity → IsFilling s p c₀ c₀ e index from bytes n 0
+filling_begins s p c₀ e index from bytes n is count few room =
+    let all : touched_from from 0 n ≡ touched from (length bytes) = ap (λ (m : ℕ). map (touched_block from) (range_with_len 0 m)) (omega arith) ∙ sym (touched_is from (length bytes) few) in
     record {
       cache = is;
       capacity = refl;

@@ -1,9 +1,10 @@
 -- Wherever a kernel call takes a step, it is the flat machine's.
-use Rattle.std.proofs.Common.{◌≡◌, ℕ, Bool, true, false, ◌&&◌, ◌||◌, ◌==◌, List, refl, sym, ◌∙◌, ap, subst}
+use Rattle.std.proofs.Common.{◌≡◌, ℕ, ◌≤◌, Bool, true, false, ◌||◌, ◌==◌, List, refl, sym, ◌∙◌, ap, subst, arith}
+use Rattle.seq_kernel.proofs.Agreed.{agree_fact}
 use Rattle.std.specs.Prelude.{if◌then◌else◌, slice_index, Option, Some, None, Result, Ok}
-use Rattle.std.proofs.lemmas.Bool.{cond_both, and_parts, eqb-true}
+use Rattle.std.proofs.lemmas.Bool.{cond_both}
 use Rattle.seq_words.specs.Masks.{has_bit}
-use Rattle.seq_words.specs.Description.{IsDescription}
+use Rattle.seq_words.specs.Description.{IsDescription, process_of}
 use Rattle.seq_words.specs.declared.description.MachineDesc.{MachineDesc}
 use Rattle.seq_words.specs.declared.half.Half.{Half}
 use Rattle.seq_words.specs.declared.half.Half.TheVariants.{A, B}
@@ -24,7 +25,6 @@ use Rattle.seq_pair.specs.declared.halves.Pair.{Pair}
 use Rattle.seq_layout.specs.Copies.{Copies}
 use Rattle.seq_process.specs.declared.running.Running.{Running}
 use Rattle.seq_cache.specs.Changes.{Changes}
-use Rattle.seq_segments.specs.Map.{process_of}
 use Rattle.seq_kernel.specs.declared.outcomes.Outcome.{Outcome}
 use Rattle.seq_kernel.specs.declared.outcomes.Outcome.TheVariants.{Done, NeedsFlush, Diverged}
 use Rattle.seq_kernel.specs.declared.outcomes.Cause.TheVariants as cause
@@ -32,8 +32,9 @@ use Rattle.seq_kernel.specs.Views.{read_by}
 use Rattle.seq_kernel.specs.Turns.{Turned, stays, answered}
 use Rattle.seq_kernel.specs.Calls as kernel
 use Rattle.seq_kernel.specs.Bounds.{IsRunning}
-use Rattle.seq_kernel.specs.Shown.{IsFlat, Shows, HoldsInput}
-use Rattle.seq_kernel.specs.Refinement.{TakesStep, CallsAreFlat}
+use Rattle.seq_flat.specs.Reached.{IsFlat}
+use Rattle.seq_kernel.specs.Shown.{Shows, HoldsInput}
+use Rattle.seq_kernel.proofs.RefineStepsTaken.{Taken, CallsTake}
 use Rattle.seq_kernel.proofs.RefineCallsMeets.{Fits, Meets, choose, answer_meets, meets_by, rights_are}
 use Rattle.seq_kernel.proofs.RefineCallsSegments.{acquire_fits, release_fits, ended_meets}
 use Rattle.seq_kernel.proofs.RefineCallsRead.{read_fits}
@@ -42,12 +43,12 @@ use Rattle.seq_kernel.proofs.RefineStepsInstruction.{process_there, process_live
 use Rattle.seq_kernel.proofs.RefineStepsSeen.{same_memory}
 
 -- a register in which the halves agree is that of the unstruck half
-same_register : (pair : Pair) (i : ℕ) → kernel.same_at pair i ≡ true → slice_index (unstruck pair).x i ≡ slice_index pair.a.x i
+pub same_register : (pair : Pair) (i : ℕ) → slice_index pair.a.x i ≡ slice_index pair.b.x i → slice_index (unstruck pair).x i ≡ slice_index pair.a.x i
 same_register pair i same = go pair.struck
   where
     go : (h : Option Half) → slice_index (unstruck_of h pair.a pair.b).x i ≡ slice_index pair.a.x i
     go None = refl
-    go (Some A) = sym (eqb-true (slice_index pair.a.x i) (slice_index pair.b.x i) same)
+    go (Some A) = sym same
     go (Some B) = refl
 
 -- the registers of a call are those of the flat process
@@ -60,15 +61,9 @@ pub record SameArguments (f : FlatState) (r : Running) : Type 0 where
 pub same_arguments : (f : FlatState) (r : Running) → unstruck r.pair ≡ (process_at f r.pid.0).regs → kernel.agree_on_call r.pair ≡ true → SameArguments f r
 same_arguments f r shown agree =
     let pair = r.pair in
-    let all = (and_parts (pair.a.pc == pair.b.pc) _ agree).1 in
-    let halves = and_parts ((kernel.same_at pair 10 && kernel.same_at pair 11) && (kernel.same_at pair 12 && kernel.same_at pair 13)) _ all in
-    let low = and_parts (kernel.same_at pair 10 && kernel.same_at pair 11) _ halves.0 in
-    let ten = and_parts (kernel.same_at pair 10) (kernel.same_at pair 11) low.0 in
-    let twelve = and_parts (kernel.same_at pair 12) (kernel.same_at pair 13) low.1 in
-    let high = and_parts (kernel.same_at pair 14 && kernel.same_at pair 15) (kernel.same_at pair 16 && kernel.same_at pair 17) halves.1 in
-    let seventeen = and_parts (kernel.same_at pair 16) (kernel.same_at pair 17) high.1 in
-    let at : (i : ℕ) → kernel.same_at pair i ≡ true → slice_index (process_at f r.pid.0).regs.x i ≡ slice_index pair.a.x i = λ i same. ap (λ (h : Regs). slice_index h.x i) (sym shown) ∙ same_register pair i same in
-    record { first = at 10 ten.0; second = at 11 ten.1; third = at 12 twelve.0; number = at 17 seventeen.1 }
+    let is = agree_fact pair agree in
+    let at : (i : ℕ) → 10 ≤ i → i ≤ 17 → slice_index (process_at f r.pid.0).regs.x i ≡ slice_index pair.a.x i = λ i low high. ap (λ (h : Regs). slice_index h.x i) (sym shown) ∙ same_register pair i (is.argument i low high) in
+    record { first = at 10 (omega arith) (omega arith); second = at 11 (omega arith) (omega arith); third = at 12 (omega arith) (omega arith); number = at 17 (omega arith) (omega arith) }
 
 -- the flat machine has one test where the kernel has two
 choose_one : (d : MachineDesc) (p : Copies) (s t first second : Bool) (x y z : Turned) (u v : Result FlatState Waits) → s ≡ first → t ≡ second → Fits d p x u → Fits d p y u → Fits d p z v → Fits d p (if s then x else if t then y else z) (if first || second then u else v)
@@ -92,7 +87,7 @@ module _ (d : MachineDesc) (inputs : List LineInput) (f : FlatState) (p : Copies
     test k = ap (λ n. n == k) (sym same.number)
 
     answer : (o : Outcome) (n : ℕ) → Fits d p (record { outcome = o; running = answered r n; cache = c }) (Ok (flat.answered f r.pid.0 n))
-    answer o n step = answer_meets d f p r c o n is running.process shows
+    answer o n step = answer_meets d f p r c o n is running.within.process shows
 
     numbered_fits : Fits d p (kernel.numbered d p r c (register r.pair.a)) (flat.kernel_call rights inputs f r.pid.0 (flat.argument f r.pid.0 17))
     unfolding kernel.numbered flat.kernel_call
@@ -109,10 +104,10 @@ module _ (d : MachineDesc) (inputs : List LineInput) (f : FlatState) (p : Copies
   unfolding kernel.call_of
   call_fits = cond_both (kernel.agree_on_call r.pair) (kernel.numbered d p r c (register r.pair.a)) (stays Diverged r c)
       (λ after. Fits d p after (flat.kernel_call (rights_at (rights_of d) r.pid.0) inputs f r.pid.0 (flat.argument f r.pid.0 17)))
-      (λ agree. numbered_fits (rights_at (rights_of d) r.pid.0) (ap (λ (x : Rights). x.lines) (rights_are d r.pid.0 running.process)) (ap (λ (x : Rights). x.grants) (rights_are d r.pid.0 running.process)) (same_arguments f r shows.registers agree)) (λ _. λ step. absurd step)
+      (λ agree. numbered_fits (rights_at (rights_of d) r.pid.0) (ap (λ (x : Rights). x.lines) (rights_are d r.pid.0 running.within.process)) (ap (λ (x : Rights). x.grants) (rights_are d r.pid.0 running.within.process)) (same_arguments f r shows.registers agree)) (λ _. λ step. absurd step)
 
 -- what meets the flat call takes the flat step
-pub call_taken : (d : MachineDesc) (inputs : List LineInput) (f : FlatState) (p : Copies) (r : Running) (c : Changes) → IsRunning d r → IsFlat d f → Shows d f (read_by d p c) r → (after : Turned) → outcome f r.pid.0 ≡ call → Meets d p after (flat.kernel_call (rights_at (rights_of d) r.pid.0) inputs f r.pid.0 (flat.argument f r.pid.0 17)) → TakesStep d inputs f p r.pid.0 after
+pub call_taken : (d : MachineDesc) (inputs : List LineInput) (f : FlatState) (p : Copies) (r : Running) (c : Changes) → IsRunning d r → IsFlat d f → Shows d f (read_by d p c) r → (after : Turned) → outcome f r.pid.0 ≡ call → Meets d p after (flat.kernel_call (rights_at (rights_of d) r.pid.0) inputs f r.pid.0 (flat.argument f r.pid.0 17)) → Taken d inputs f p r.pid.0 after
 call_taken d inputs f p r c running is shows after called meets = record {
   state = meets.state;
   step = steps_calls (rights_of d) inputs f r.pid.0 (process_there d f r running is) (process_lives d f (read_by d p c) r running shows) (sym (ap plain_effect called)) ∙ meets.is;
@@ -121,6 +116,6 @@ call_taken d inputs f p r c running is shows after called meets = record {
 }
 
 -- Wherever a kernel call takes a step, it is the flat machine's.
-pub calls_are_flat : CallsAreFlat
+pub calls_are_flat : CallsTake
 calls_are_flat d inputs f p r c described readable running cached is shows arrived called step =
     call_taken d inputs f p r c running is shows (kernel.call_of d p r c) called (call_fits d inputs f p r c described running is shows arrived step)

@@ -3,18 +3,20 @@ use Rattle.std.proofs.Common.{◌≡◌, ◌≢◌, ◌⊎◌, ℕ, ◌+◌, ◌
 use Rattle.std.specs.Prelude.{slice_index, count_ones}
 use Rattle.std.proofs.lemmas.Bool.{cases_eq, cases_order}
 use Rattle.seq_words.specs.Masks.{has_bit}
-use Rattle.seq_words.specs.Description.{IsDescription}
+use Rattle.seq_words.specs.Description.{IsDescription, process_of, no_process}
 use Rattle.seq_words.specs.declared.description.MachineDesc.{MachineDesc}
 use Rattle.seq_flat.specs.declared.state.LineState.{LineState}
 use Rattle.seq_flat.specs.declared.state.FlatState.{FlatState}
 use Rattle.seq_flat.specs.State.{no_line, line_at, with_line}
 use Rattle.seq_layout.specs.Shapes.{shape_of, segment_extent}
 use Rattle.seq_process.specs.declared.running.Running.{Running}
-use Rattle.seq_segments.specs.Map.{process_of, no_process, before_private}
+use Rattle.seq_segments.specs.Map.{before_private}
 use Rattle.seq_kernel.specs.Views.{Blocks, byte_in}
 use Rattle.seq_kernel.specs.Calls.{lines_of, line_index}
 use Rattle.seq_kernel.specs.Bounds.{IsRunning}
-use Rattle.seq_kernel.specs.Shown.{HoldBytes, IsFlat, Shows, ShowsLine, outbox_byte}
+use Rattle.seq_kernel.specs.Shown.{HoldBytes, Shows, ShowsLine, outbox_byte}
+use Rattle.seq_flat.specs.Reached.{IsFlat}
+use Rattle.seq_kernel.proofs.CallPlaces.{lines_are_few}
 use Rattle.seq_kernel.proofs.RefineCallsBits.{index_below, index_apart}
 
 -- a place that isn't in the outbox with this number of process p
@@ -53,10 +55,10 @@ module _ (d : MachineDesc) (f : FlatState) (r : Running) (described : IsDescript
   index_few = index_below (lines_of d r) l own
 
   pub index_of_four : line_index d r l < 4
-  index_of_four = omega (arith, index_few, (described.each_process r.pid.0 no_process running.process).few)
+  index_of_four = omega (arith, index_few, (described.each_process r.pid.0 no_process running.within.process).few)
 
   pub known_line : l < length f.lines
-  known_line = omega (arith, running.lines l own, is.lines)
+  known_line = omega (arith, lines_are_few d described r.pid.0 l own, is.lines)
 
   -- with other positions and bytes of line l alone
   pub line_shows : (o o' : Blocks) (n : LineState) (reads writes : List ℕ) → Shows d f o r → ((e m : ℕ) → length (o' e m).bytes ≡ 32) → KeepsOthers r.pid.0 (line_index d r l) o o'
@@ -73,7 +75,7 @@ module _ (d : MachineDesc) (f : FlatState) (r : Running) (described : IsDescript
         private = kept_bytes r.pid.0 i o o' r.pid.0 (before_private (process_of d r.pid.0)) _ kept (λ k. inr (inr (omega (arith, index_few)))) shows.private;
         segment = λ t lt.
             let s = shows.segment t lt in
-            record { held = s.held; bytes = λ set. kept_bytes r.pid.0 i o o' (segment_extent (shape_of d) t) 0 _ kept (λ k. inl (let there = running.process in omega arith)) (s.bytes set) };
+            record { held = s.held; bytes = λ set. kept_bytes r.pid.0 i o o' (segment_extent (shape_of d) t) 0 _ kept (λ k. inl (let there = running.within.process in omega arith)) (s.bytes set) };
         line = λ m mine. elim (cases_eq m l) [
           | inl same ↦ subst (ShowsLine d (with_line f l n) o' after) (sym same) (line_is d (with_line f l n) o' after l n (get_or-set_same f.lines l n no_line known_line) read written outbox)
           | inr other ↦

@@ -5,6 +5,7 @@ use Rattle.std.proofs.lemmas.Bool.{false≢true}
 use Rattle.std.proofs.lemmas.List.{get_or-map}
 use Rattle.seq_words.specs.declared.description.MachineDesc.{MachineDesc}
 use Rattle.seq_words.specs.declared.description.ProcessDesc.{ProcessDesc}
+use Rattle.seq_words.specs.Description.{process_of, no_process}
 use Rattle.seq_flat.specs.declared.state.FlatState.{FlatState}
 use Rattle.seq_flat.specs.declared.state.Waits.{Waits}
 use Rattle.seq_flat.specs.State.{no_rights, rights_at, rights_of}
@@ -12,11 +13,11 @@ use Rattle.seq_flat.specs.Calls as flat
 use Rattle.seq_layout.specs.Copies.{Copies}
 use Rattle.seq_process.specs.declared.running.Running.{Running}
 use Rattle.seq_cache.specs.Changes.{Changes}
-use Rattle.seq_segments.specs.Map.{process_of, no_process}
 use Rattle.seq_kernel.specs.declared.outcomes.Outcome.{Outcome}
 use Rattle.seq_kernel.specs.Views.{read_by}
 use Rattle.seq_kernel.specs.Turns.{Turned, answered}
-use Rattle.seq_kernel.specs.Shown.{IsFlat, Shows}
+use Rattle.seq_flat.specs.Reached.{IsFlat}
+use Rattle.seq_kernel.specs.Shown.{Shows}
 use Rattle.seq_kernel.specs.Refinement.{takes_step}
 use Rattle.seq_kernel.proofs.RefineCallsFrame.{answered_flat, answered_shows}
 

@@ -22,8 +22,9 @@ use Rattle.seq_kernel.specs.Views.{read_by}
 use Rattle.seq_kernel.specs.Turns.{stays}
 use Rattle.seq_kernel.specs.Calls as kernel
 use Rattle.seq_kernel.specs.Bounds.{IsRunning}
-use Rattle.seq_kernel.specs.Shown.{IsFlat, Shows, HoldsInput}
-use Rattle.seq_kernel.proofs.RefineCallsFrame.{flat_line}
+use Rattle.seq_flat.specs.Reached.{IsFlat}
+use Rattle.seq_kernel.specs.Shown.{Shows, HoldsInput}
+use Rattle.seq_flat.proofs.Moved.{flat_line}
 use Rattle.seq_kernel.proofs.RefineCallsMeets.{Fits, Meets, answer_meets, meets_by}
 use Rattle.seq_kernel.proofs.RefineCallsLines.{keeps_all, line_shows, index_of_four}
 
@@ -61,10 +62,10 @@ module _ (d : MachineDesc) (f : FlatState) (r : Running) (described : IsDescript
         let n : LineState = record (line_at f l) { read = (line_at f l).read + 1 } in
         let line = shows.line l own in
         let byte : Some (kernel.journal_byte d p l at) ≡ slice_get (input_at inputs l).bytes (line_at f l).read = sym (input.bytes at more) ∙ ap (slice_get (input_at inputs l).bytes) line.read in
-        let room : index < length r.reads = omega (arith, index_of_four d f r described is running l own, running.four_reads) in
+        let room : index < length r.reads = omega (arith, index_of_four d f r described is running l own, running.within.positions.reads) in
         let reads : slice_index (set r.reads index (at + 1)) index ≡ at + 1 = get_or-set_same r.reads index (at + 1) 0 room in
         meets_by d p _ _ _ (read_some rights inputs f r.pid.0 l (kernel.journal_byte d p l at) right byte)
-        (answer_meets d (with_line f l n) p (record r { reads = set r.reads index (at + 1) }) c Done (kernel.journal_byte d p l at) (flat_line d f l n is) running.process
+        (answer_meets d (with_line f l n) p (record r { reads = set r.reads index (at + 1) }) c Done (kernel.journal_byte d p l at) (flat_line d f l n is) running.within.process
         (line_shows d f r described is running l own (read_by d p c) (read_by d p c) n (set r.reads index (at + 1)) r.writes shows shows.whole (keeps_all r.pid.0 index (read_by d p c))
         (λ j other. get_or-set_other r.reads index j (at + 1) 0 other) (λ j other. refl)
         (reads ∙ ap (λ k. k + 1) line.read) line.written line.outbox))
@@ -76,14 +77,14 @@ module _ (d : MachineDesc) (f : FlatState) (r : Running) (described : IsDescript
         let whole = input.closed closed in
         let past : length (input_at inputs l).bytes ≤ (line_at f l).read = omega (arith, line.read, whole.1) in
         meets_by d p _ _ _ (read_end rights inputs f r.pid.0 l right (sym (slice_get_past (input_at inputs l).bytes (line_at f l).read past)) whole.0)
-        (answer_meets d f p r c Done (flat.minus 1) is running.process shows)
+        (answer_meets d f p r c Done (flat.minus 1) is running.within.process shows)
 
   -- read
   pub read_fits : (has_bit (kernel.lines_of d r) l ≡ true → HoldsInput d p inputs l) → Fits d p (kernel.read d p r c l) (flat.read rights inputs f r.pid.0 l)
   read_fits inputs_held = elim (cases_Bool (has_bit (kernel.lines_of d r) l)) [
     | inr other ↦
         subst (λ after. Fits d p after (flat.read rights inputs f r.pid.0 l)) (sym (read_others d p r c l other))
-        (λ step. meets_by d p _ _ _ (flat_read_others rights inputs f r.pid.0 l (ap (λ n. has_bit n l) same ∙ other)) (answer_meets d f p r c Done (flat.minus 6) is running.process shows))
+        (λ step. meets_by d p _ _ _ (flat_read_others rights inputs f r.pid.0 l (ap (λ n. has_bit n l) same ∙ other)) (answer_meets d f p r c Done (flat.minus 6) is running.within.process shows))
     | inl own ↦ elim (cases_lt (slice_index r.reads (kernel.line_index d r l)) (kernel.line_word d p l 0)) [
       | inl more ↦ subst (λ after. Fits d p after (flat.read rights inputs f r.pid.0 l)) (sym (read_on d p r c l own more)) (λ step. next_meets own (inputs_held own) more)
       | inr all ↦ elim (cases_Bool (kernel.line_word d p l 1 == 1)) [

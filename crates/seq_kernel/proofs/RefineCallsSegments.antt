@@ -9,6 +9,7 @@ use Rattle.std.proofs.lemmas.List.Folds.{list_any_at, list_any_none}
 use Rattle.std.proofs.lemmas.Nat.Bits.{bit_at-zero}
 use Rattle.seq_words.specs.Masks.{has_bit}
 use Rattle.seq_words.specs.declared.description.MachineDesc.{MachineDesc}
+use Rattle.seq_words.specs.Description.{process_of}
 use Rattle.seq_flat.specs.declared.state.End.{End}
 use Rattle.seq_flat.specs.declared.state.ProcessState.{ProcessState}
 use Rattle.seq_flat.specs.declared.state.SegmentState.{SegmentState}
@@ -21,16 +22,18 @@ use Rattle.seq_layout.specs.Shapes.{shape_of, segment_extent}
 use Rattle.seq_layout.specs.Copies.{Copies}
 use Rattle.seq_process.specs.declared.running.Running.{Running}
 use Rattle.seq_cache.specs.Changes.{Changes}
-use Rattle.seq_segments.specs.Map.{process_of, before_private}
+use Rattle.seq_segments.specs.Map.{before_private}
 use Rattle.seq_kernel.specs.declared.outcomes.Outcome.{Outcome}
 use Rattle.seq_kernel.specs.declared.outcomes.Outcome.TheVariants.{Done}
 use Rattle.seq_kernel.specs.Views.{Blocks, read_by}
 use Rattle.seq_kernel.specs.Turns.{ended}
 use Rattle.seq_kernel.specs.Calls as kernel
 use Rattle.seq_kernel.specs.Bounds.{IsRunning}
-use Rattle.seq_kernel.specs.Shown.{HoldBytes, IsFlat, Shows, ShowsSegment}
+use Rattle.seq_flat.specs.Reached.{IsFlat}
+use Rattle.seq_kernel.specs.Shown.{HoldBytes, Shows, ShowsSegment}
 use Rattle.seq_kernel.proofs.RefineCallsBits.{zero_from_bits, bit_above, bit_off_here, bit_off_other, bit_on_here, bit_on_other}
-use Rattle.seq_kernel.proofs.RefineCallsFrame.{process_put, flat_process, flat_segments, known}
+use Rattle.seq_flat.proofs.Moved.{process_put, flat_process, flat_segments}
+use Rattle.seq_kernel.proofs.RefineCallsFrame.{known, answered_flat, answered_shows}
 use Rattle.seq_kernel.proofs.RefineCallsMeets.{Fits, Meets, choose, choose_ok, answer_meets}
 
 -- a segment of the flat state is shown, where it is s
@@ -102,10 +105,33 @@ module _ (d : MachineDesc) (f : FlatState) (r : Running) (is : IsFlat d f) (runn
     some_above : (t : ℕ) → 0 < r.held / 2 ^ (t + 1) → list_any (λ s. is_owner r.pid.0 s.owner) (drop (t + 1) f.segments) ≡ true
     some_above t some = true_from_ne_false _ (λ none.
         let nothing : r.held / 2 ^ (t + 1) ≡ 0 = zero_from_bits (r.held / 2 ^ (t + 1)) (λ k. false_from_ne_true (has_bit (r.held / 2 ^ (t + 1)) k) (λ set.
-        let inside : t + 1 + k < length d.segments = running.held (t + 1 + k) (sym (bit_above r.held (t + 1) k) ∙ set) in
+        let inside : t + 1 + k < length d.segments = running.within.held (t + 1 + k) (sym (bit_above r.held (t + 1) k) ∙ set) in
         let there : k < length (drop (t + 1) f.segments) = omega (arith, length-drop (t + 1) f.segments, is.segments) in
         false≢true (sym none ∙ list_any_at (λ (s : SegmentState). is_owner r.pid.0 s.owner) (drop (t + 1) f.segments) k no_segment there (sym (own_above t k inside) ∙ set)))) in
         omega arith)
+
+    -- none above is its own where none above is held
+    pub none_owned : (t : ℕ) → ((u : ℕ) → t < u → has_bit r.held u ≡ false) → list_any (λ s. is_owner r.pid.0 s.owner) (drop (t + 1) f.segments) ≡ false
+    none_owned t none = list_any_none (λ (s : SegmentState). is_owner r.pid.0 s.owner) (drop (t + 1) f.segments)
+        (All-from_get_or (λ (s : SegmentState). is_owner r.pid.0 s.owner ≡ false) (drop (t + 1) f.segments) no_segment (λ k lt.
+        let inside : t + 1 + k < length d.segments = omega (arith, length-drop (t + 1) f.segments, is.segments) in
+        let past : t < t + 1 + k = omega arith in
+        sym (own_above t k inside) ∙ bit_above r.held (t + 1) k ∙ none (t + 1 + k) past))
+
+    -- a segment that nobody owns goes to the process
+    module _ (t : ℕ) (lt : t < length d.segments) where
+      abbrev pub with_taken : FlatState
+      with_taken = flat.answered (with_segment f t (record (segment_at f t) { owner = Some r.pid })) r.pid.0 0
+
+      pub taken_flat : IsFlat d with_taken
+      taken_flat = answered_flat d (with_segment f t (record (segment_at f t) { owner = Some r.pid })) r (owner_flat t (record (segment_at f t) { owner = Some r.pid }) refl) running.within.process 0
+
+      pub taken_shows : has_bit r.held t ≡ false → HoldBytes o (segment_extent (shape_of d) t) 0 (segment_at f t).bytes → Shows d with_taken o (kernel.granted r t)
+      taken_shows unset bytes =
+          let mine : SegmentState = record (segment_at f t) { owner = Some r.pid } in
+          let on : has_bit (r.held + 2 ^ t) t ≡ true = bit_on_here r.held t unset in
+          answered_shows d (with_segment f t mine) (record r { held = r.held + 2 ^ t }) (owner_flat t mine refl) running.within.process o 0
+          (owner_shows t (r.held + 2 ^ t) mine lt (on ∙ sym (eq-eqb r.pid.0 r.pid.0 refl)) (λ _. bytes) (λ u other. bit_on_other r.held t u other unset))
 
     -- the process holds a segment above t where the flat machine says so
     pub held_above : (t : ℕ) → nat_lt 0 (r.held / 2 ^ (t + 1)) ≡ list_any (λ s. is_owner r.pid.0 s.owner) (drop (t + 1) f.segments)
@@ -121,11 +147,11 @@ module _ (d : MachineDesc) (f : FlatState) (r : Running) (is : IsFlat d f) (runn
     acquire_fits t same =
         let known_test : not (nat_lt t (length d.segments)) ≡ not (nat_lt t (length f.segments)) = ap (λ n. not (nat_lt t n)) (sym is.segments) in
         let granted_test : not (has_bit (process_of d r.pid.0).grants t) ≡ not (has_bit rights.grants t) = ap (λ n. not (has_bit n t)) (sym same) in
-        choose d p _ _ _ _ _ _ known_test (λ _. λ step. answer_meets d f p r c Done (flat.minus 3) is running.process shows) (λ known_here.
+        choose d p _ _ _ _ _ _ known_test (λ _. λ step. answer_meets d f p r c Done (flat.minus 3) is running.within.process shows) (λ known_here.
         let lt : t < length d.segments = ltb-true t (length d.segments) (not-false _ known_here) in
-        choose d p _ _ _ _ _ _ granted_test (λ _. λ step. answer_meets d f p r c Done (flat.minus 4) is running.process shows) (λ _.
-        choose d p _ _ _ _ _ _ (shows.segment t lt).held (λ _. λ step. answer_meets d f p r c Done (flat.minus 1) is running.process shows) (λ _.
-        choose d p _ _ _ _ _ _ (held_above (read_by d p c) shows t) (λ _. λ step. answer_meets d f p r c Done (flat.minus 2) is running.process shows) (λ _. λ step. absurd step))))
+        choose d p _ _ _ _ _ _ granted_test (λ _. λ step. answer_meets d f p r c Done (flat.minus 4) is running.within.process shows) (λ _.
+        choose d p _ _ _ _ _ _ (shows.segment t lt).held (λ _. λ step. answer_meets d f p r c Done (flat.minus 1) is running.within.process shows) (λ _.
+        choose d p _ _ _ _ _ _ (held_above (read_by d p c) shows t) (λ _. λ step. answer_meets d f p r c Done (flat.minus 2) is running.within.process shows) (λ _. λ step. absurd step))))
 
     -- release
     release_test : (t : ℕ) → (nat_lt t (length d.segments) && has_bit r.held t) ≡ (nat_lt t (length f.segments) && is_owner r.pid.0 (segment_at f t).owner)
@@ -142,9 +168,9 @@ module _ (d : MachineDesc) (f : FlatState) (r : Running) (is : IsFlat d f) (runn
         let lt : t < length d.segments = ltb-true t (length d.segments) parts.0 in
         let free : SegmentState = record (segment_at f t) { owner = None } in
         let off : has_bit (r.held - 2 ^ t) t ≡ false = bit_off_here r.held t parts.1 in
-        answer_meets d (with_segment f t free) p (record r { held = r.held - 2 ^ t }) c _ 0 (owner_flat t free refl) running.process
+        answer_meets d (with_segment f t free) p (record r { held = r.held - 2 ^ t }) c _ 0 (owner_flat t free refl) running.within.process
         (owner_shows (read_by d p c) shows t (r.held - 2 ^ t) free lt off (λ set. absurd (false≢true (sym off ∙ set))) (λ u other. bit_off_other r.held t u other parts.1)))
-        (λ _. λ step. answer_meets d f p r c Done (flat.minus 1) is running.process shows)
+        (λ _. λ step. answer_meets d f p r c Done (flat.minus 1) is running.within.process shows)
 
     -- the end of a process, which gives up all its segments
     pub ended_meets : (outcome : Outcome) (end : End) → Meets d p (record { outcome = outcome; running = ended r end; cache = c }) (Ok (flat.ended f r.pid.0 end))
@@ -152,7 +178,7 @@ module _ (d : MachineDesc) (f : FlatState) (r : Running) (is : IsFlat d f) (runn
     ended_meets outcome end =
         let o : Blocks = read_by d p c in
         let q : ProcessState = record (process_at f r.pid.0) { end = end } in
-        let there = known d f r is running.process in
+        let there = known d f r is running.within.process in
         let here : process_at (with_process f r.pid.0 q) r.pid.0 ≡ q = process_put f r.pid.0 q there in
         let left : (t : ℕ) → t < length f.segments → get_or (map (flat.given_up r.pid.0) f.segments) t no_segment ≡ flat.given_up r.pid.0 (segment_at f t) = λ t lt. get_or-map (flat.given_up r.pid.0) f.segments t no_segment no_segment lt in
         record {
@@ -170,11 +196,3 @@ module _ (d : MachineDesc) (f : FlatState) (r : Running) (is : IsFlat d f) (runn
             line = λ l own. (let n = shows.line l own in record { read = n.read; written = n.written; outbox = n.outbox });
           };
         }
-
-    -- a segment that nobody owns goes to the process
-    pub granted_meets : (t : ℕ) → t < length d.segments → has_bit r.held t ≡ false → HoldBytes (read_by d p c) (segment_extent (shape_of d) t) 0 (segment_at f t).bytes → Meets d p (record { outcome = Done; running = kernel.granted r t; cache = c }) (flat.taken_by f r.pid.0 t None)
-    granted_meets t lt unset bytes =
-        let mine : SegmentState = record (segment_at f t) { owner = Some r.pid } in
-        let on : has_bit (r.held + 2 ^ t) t ≡ true = bit_on_here r.held t unset in
-        answer_meets d (with_segment f t mine) p (record r { held = r.held + 2 ^ t }) c Done 0 (owner_flat t mine refl) running.process
-        (owner_shows (read_by d p c) shows t (r.held + 2 ^ t) mine lt (on ∙ sym (eq-eqb r.pid.0 r.pid.0 refl)) (λ _. bytes) (λ u other. bit_on_other r.held t u other unset))

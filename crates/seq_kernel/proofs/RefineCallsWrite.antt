@@ -27,8 +27,9 @@ use Rattle.seq_kernel.specs.Outboxes.{after_place, needed, outbox_filled}
 use Rattle.seq_kernel.specs.Turns.{stays, answered}
 use Rattle.seq_kernel.specs.Calls as kernel
 use Rattle.seq_kernel.specs.Bounds.{IsRunning}
-use Rattle.seq_kernel.specs.Shown.{IsFlat, Shows, outbox_byte}
-use Rattle.seq_kernel.proofs.RefineCallsFrame.{flat_line}
+use Rattle.seq_flat.specs.Reached.{IsFlat}
+use Rattle.seq_kernel.specs.Shown.{Shows, outbox_byte}
+use Rattle.seq_flat.proofs.Moved.{flat_line}
 use Rattle.seq_kernel.proofs.RefineCallsMeets.{Fits, Meets, choose_ok, either_fits, answer_meets, meets_by}
 use Rattle.seq_kernel.proofs.RefineCallsLines.{line_shows, index_of_four}
 use Rattle.seq_kernel.proofs.RefineCallsPlaces.{outbox_more}
@@ -39,7 +40,7 @@ one_more : (xs bytes : List ℕ) (byte : Option ℕ) → option_map (λ b. xs ++
 one_more xs bytes (Some b) found = ap length (sym (same_Some (xs ++ b ∷ []) bytes found)) ∙ length_push xs b ∙ omega arith
 one_more xs bytes None found = absurd (none-some bytes found)
 
-bytes_counted : (memory : Bytes) (at n : ℕ) (bytes : List ℕ) → bytes_from memory at n ≡ Some bytes → length bytes ≡ n
+pub bytes_counted : (memory : Bytes) (at n : ℕ) (bytes : List ℕ) → bytes_from memory at n ≡ Some bytes → length bytes ≡ n
 unfolding bytes_from
 bytes_counted memory at zero bytes found = ap length (sym (same_Some [] bytes found))
 bytes_counted memory at (suc n) bytes found =
@@ -89,9 +90,9 @@ module _ (d : MachineDesc) (f : FlatState) (r : Running) (described : IsDescript
       let o : Blocks = read_by d p c in
       let after : Changes = outbox_filled o c r.pid.0 i from bytes in
       let line = shows.line l own in
-      let room : i < length r.writes = omega (arith, index_of_four d f r described is running l own, running.four_writes) in
+      let room : i < length r.writes = omega (arith, index_of_four d f r described is running l own, running.within.positions.writes) in
       let more : from + length bytes ≡ length ((line_at f l).output ++ bytes) = omega (arith, line.written, length-append (line_at f l).output bytes) in
-      answer_meets d (with_line f l n) p (record r { writes = set r.writes i (from + length bytes) }) after Done (length bytes) (flat_line d f l n is) running.process
+      answer_meets d (with_line f l n) p (record r { writes = set r.writes i (from + length bytes) }) after Done (length bytes) (flat_line d f l n is) running.within.process
       (line_shows d f r described is running l own o (read_by d p after) n r.reads (set r.writes i (from + length bytes)) shows (outbox_whole (shape_of d) p c r.pid.0 i from bytes shows.whole) (outbox_keeps (shape_of d) p c r.pid.0 i from bytes)
       (λ j other. refl) (λ j other. get_or-set_other r.writes i j (from + length bytes) 0 other)
       line.read (get_or-set_same r.writes i (from + length bytes) 0 room ∙ more)
@@ -103,9 +104,9 @@ module _ (d : MachineDesc) (f : FlatState) (r : Running) (described : IsDescript
 
   written_fits : (found : Option (List ℕ)) → ((bytes : List ℕ) → found ≡ Some bytes → length bytes ≤ 256) → has_bit (kernel.lines_of d r) l ≡ true → Fits d p (kernel.written d p r c l found) (Ok (flat.written f r.pid.0 l found))
   unfolding flat.written
-  written_fits None few own = λ step. answer_meets d f p r c Done (flat.minus 8) is running.process shows
+  written_fits None few own = λ step. answer_meets d f p r c Done (flat.minus 8) is running.within.process shows
   written_fits (Some bytes) few own =
-      choose_ok d p _ _ _ _ _ _ (ap (λ n. nat_lt 1048576 (n + length bytes)) (shows.line l own).written) (λ _. λ step. answer_meets d f p r c Done (flat.minus 5) is running.process shows) (λ _.
+      choose_ok d p _ _ _ _ _ _ (ap (λ n. nat_lt 1048576 (n + length bytes)) (shows.line l own).written) (λ _. λ step. answer_meets d f p r c Done (flat.minus 5) is running.within.process shows) (λ _.
       let i : ℕ = kernel.line_index d r l in
       let from : ℕ = slice_index r.writes i in
       either_fits d p (nat_lt (256 + kernel.line_word d p l 2) (from + length bytes)) (stays (Waits (reason.Outbox (record { 0 = l }) (kernel.line_word d p l 2))) r c) _ _ (λ step. absurd step)
@@ -117,13 +118,13 @@ module _ (d : MachineDesc) (f : FlatState) (r : Running) (described : IsDescript
   write_fits rights at count same same_seen = elim (cases_Bool (has_bit (kernel.lines_of d r) l)) [
     | inr other ↦
         subst (λ after. Fits d p after (Ok (flat.write rights f r.pid.0 l at count))) (sym (write_others d p r c l at count other))
-        (λ step. meets_by d p _ _ _ (ap Ok (flat_write_others rights f r.pid.0 l at count (ap (λ n. has_bit n l) same ∙ other))) (answer_meets d f p r c Done (flat.minus 6) is running.process shows))
+        (λ step. meets_by d p _ _ _ (ap Ok (flat_write_others rights f r.pid.0 l at count (ap (λ n. has_bit n l) same ∙ other))) (answer_meets d f p r c Done (flat.minus 6) is running.within.process shows))
     | inl own ↦
         let right : has_bit rights.lines l ≡ true = ap (λ n. has_bit n l) same ∙ own in
         elim (cases_lt 64 count) [
           | inl long ↦
               subst (λ after. Fits d p after (Ok (flat.write rights f r.pid.0 l at count))) (sym (write_long d p r c l at count own long))
-              (λ step. meets_by d p _ _ _ (ap Ok (flat_write_long rights f r.pid.0 l at count right long)) (answer_meets d f p r c Done (flat.minus 7) is running.process shows))
+              (λ step. meets_by d p _ _ _ (ap Ok (flat_write_long rights f r.pid.0 l at count right long)) (answer_meets d f p r c Done (flat.minus 7) is running.within.process shows))
           | inr few ↦
               let found = bytes_from (seen d r.pid.0 r.held (read_by d p c)) at count in
               let all_few : (bytes : List ℕ) → found ≡ Some bytes → length bytes ≤ 256 = λ bytes e. omega (arith, bytes_counted (seen d r.pid.0 r.held (read_by d p c)) at count bytes e) in

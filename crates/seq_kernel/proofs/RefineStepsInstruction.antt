@@ -1,7 +1,7 @@
 -- A turn that an instruction makes is the flat machine's step.
 use Rattle.std.proofs.Common.{◌≡◌, ℕ, ◌+◌, ◌<◌, ◌≤◌, true, List, length, Option, Some, None, arith, refl, sym, ◌∙◌, ap, subst, inl, inr}
 use Rattle.std.proofs.lemmas.Bool.{cases_lt}
-use Rattle.seq_words.specs.Description.{IsDescription}
+use Rattle.seq_words.specs.Description.{IsDescription, process_of, segment_of}
 use Rattle.seq_words.specs.declared.description.MachineDesc.{MachineDesc}
 use Rattle.seq_words.specs.declared.regs.Regs.{Regs}
 use Rattle.seq_isa.specs.Meaning.{Bytes, moves, outcome_at, registers_after}
@@ -23,17 +23,18 @@ use Rattle.seq_layout.specs.Shapes.{shape_of, segment_extent}
 use Rattle.seq_layout.specs.Copies.{Copies}
 use Rattle.seq_process.specs.declared.running.Running.{Running}
 use Rattle.seq_cache.specs.Changes.{Changes}
-use Rattle.seq_segments.specs.Map.{process_of, segment_of, before_private, mapped}
+use Rattle.seq_segments.specs.Map.{before_private, mapped}
 use Rattle.seq_kernel.specs.Views.{Blocks, read_by, seen, admission, with_store}
 use Rattle.seq_kernel.specs.Turns.{counted}
 use Rattle.seq_kernel.specs.Steps.{after_effect, pair_turn}
 use Rattle.seq_kernel.specs.Bounds.{IsRunning}
-use Rattle.seq_kernel.specs.Shown.{HoldBytes, ShowsLine, ShowsSegment, IsFlat, Shows}
-use Rattle.seq_kernel.specs.Refinement.{TakesStep}
+use Rattle.seq_kernel.specs.Shown.{HoldBytes, ShowsLine, ShowsSegment, Shows}
+use Rattle.seq_flat.specs.Reached.{IsFlat}
+use Rattle.seq_kernel.proofs.RefineStepsTaken.{Taken}
 use Rattle.seq_kernel.proofs.RefineStepsSeen.{private_small, mapped_private, mapped_high, mapped_inside, same_memory}
 use Rattle.seq_kernel.proofs.RefineStepsPair.{Agrees, agrees, agreed_moves, unstruck_after}
 use Rattle.seq_kernel.proofs.RefineStepsOutcomes.{IsPut, outcome_puts}
-use Rattle.seq_kernel.proofs.RefineStepsFlat.{moved_process, moved_flat}
+use Rattle.seq_flat.proofs.Moved.{moved_process, moved_flat}
 use Rattle.seq_kernel.proofs.RefineStepsStores.{ShowsMemory, read_stored, none_stored, low_stored, high_stored}
 
 -- the bytes of a store are there
@@ -45,7 +46,7 @@ positive width (inr (inr e)) = omega arith
 -- the place of an admitted store
 low_place : (d : MachineDesc) (f : FlatState) (r : Running) (at width : ℕ) → IsRunning d r → IsFlat d f → IsWidth width → at + width ≤ length (process_at f r.pid.0).bytes → mapped d r.pid.0 r.held at ≡ Some (record { 0 = r.pid.0 }, before_private (process_of d r.pid.0) + at)
 low_place d f r at width running flat wide inside =
-    let size : length (process_at f r.pid.0).bytes ≡ (process_of d r.pid.0).size = flat.sizes r.pid.0 running.process in
+    let size : length (process_at f r.pid.0).bytes ≡ (process_of d r.pid.0).size = flat.sizes r.pid.0 running.within.process in
     let some : 0 < width = positive width wide in
     mapped_private d r.pid.0 r.held at (omega arith)
 
@@ -55,7 +56,7 @@ high_place d f o r at width described running flat shows wide high shared =
     let size : length (segment_at f (segment_number at)).bytes ≡ (segment_of d (segment_number at)).size = flat.segment_sizes (segment_number at) there in
     let some : 0 < width = positive width wide in
     let inside : offset_of at < (segment_of d (segment_number at)).size = (let all = shared.inside in omega arith) in
-    mapped_high d r.pid.0 r.held at (private_small d r.pid.0 described running.process) high
+    mapped_high d r.pid.0 r.held at (private_small d r.pid.0 described running.within.process) high
     ∙ mapped_inside d r.held (segment_number at) (offset_of at) there ((shows.segment (segment_number at) there).held ∙ shared.held) inside
 
 -- the memory after an instruction, with or without a store
@@ -110,7 +111,7 @@ shows_went d f o o' r pair wrote store next there shows memory registers =
 
 -- a running process is there and lives in the flat state too
 pub process_there : (d : MachineDesc) (f : FlatState) (r : Running) → IsRunning d r → IsFlat d f → r.pid.0 < length f.processes
-process_there d f r running flat = let process = running.process in let same = flat.processes in omega arith
+process_there d f r running flat = let process = running.within.process in let same = flat.processes in omega arith
 
 pub process_lives : (d : MachineDesc) (f : FlatState) (o : Blocks) (r : Running) → IsRunning d r → Shows d f o r → is_live (process_at f r.pid.0).end ≡ true
 process_lives d f o r running shows = ap is_live (sym shows.end ∙ running.live)
@@ -124,7 +125,7 @@ outcome_shown d f o r described running flat shows =
 -- A turn in which the halves agree on an instruction is the flat machine's step.
 pub instruction_is_flat : (d : MachineDesc) (inputs : List LineInput) (f : FlatState) (p : Copies) (r : Running) (c : Changes) (wrote : Option (ℕ × ℕ)) (store : Option (ℕ × ℕ × ℕ)) (next : ℕ)
     → IsDescription d → IsRunning d r → IsFlat d f → Shows d f (read_by d p c) r → pair_turn d p r c ≡ turn.Agreed (effect.Next wrote store next)
-    → TakesStep d inputs f p r.pid.0 (after_effect d p r c (effect.Next wrote store next))
+    → Taken d inputs f p r.pid.0 (after_effect d p r c (effect.Next wrote store next))
 instruction_is_flat d inputs f p r c wrote store next described running flat shows turned =
     let o : Blocks = read_by d p c in
     let there : r.pid.0 < length f.processes = process_there d f r running flat in

@@ -5,7 +5,7 @@ use Rattle.std.proofs.lemmas.List.{get_or_past}
 use Rattle.std.proofs.lemmas.Option.{slice_get-get_or, slice_get_past}
 use mathlib.Core.Path.{fun_ext}
 use Rattle.seq_words.specs.Masks.{has_bit}
-use Rattle.seq_words.specs.Description.{IsDescription}
+use Rattle.seq_words.specs.Description.{IsDescription, no_process, process_of, segment_of}
 use Rattle.seq_words.specs.declared.description.MachineDesc.{MachineDesc}
 use Rattle.seq_flat.specs.declared.state.SegmentState.{SegmentState}
 use Rattle.seq_flat.specs.declared.state.FlatState.{FlatState}
@@ -14,10 +14,11 @@ use Rattle.seq_flat.specs.Memory.{is_owner, segment_of as segment_number, offset
 use Rattle.seq_layout.specs.declared.extents.Extent.{Extent}
 use Rattle.seq_layout.specs.Shapes.{shape_of, segment_extent}
 use Rattle.seq_process.specs.declared.running.Running.{Running}
-use Rattle.seq_segments.specs.Map.{no_process, process_of, segment_of, before_private, mapped_shared, mapped}
+use Rattle.seq_segments.specs.Map.{before_private, mapped_shared, mapped}
 use Rattle.seq_kernel.specs.Views.{Blocks, byte_in, seen}
 use Rattle.seq_kernel.specs.Bounds.{IsRunning}
-use Rattle.seq_kernel.specs.Shown.{ShowsSegment, IsFlat, Shows}
+use Rattle.seq_flat.specs.Reached.{IsFlat}
+use Rattle.seq_kernel.specs.Shown.{ShowsSegment, Shows}
 
 -- a process is smaller than the first segment's address
 pub private_small : (d : MachineDesc) (pid : ℕ) → IsDescription d → pid < length d.processes → (process_of d pid).size ≤ 65536
@@ -69,7 +70,7 @@ flat_high bytes segments p a le = rw (le-ltb a 1073741824 le) refl
 -- a private byte is the same on both sides
 private_same : (d : MachineDesc) (f : FlatState) (o : Blocks) (r : Running) (a : ℕ) → IsRunning d r → IsFlat d f → Shows d f o r → a < (process_of d r.pid.0).size → slice_get (process_at f r.pid.0).bytes a ≡ read_at o (mapped d r.pid.0 r.held a)
 private_same d f o r a running flat shows low =
-    let size : length (process_at f r.pid.0).bytes ≡ (process_of d r.pid.0).size = flat.sizes r.pid.0 running.process in
+    let size : length (process_at f r.pid.0).bytes ≡ (process_of d r.pid.0).size = flat.sizes r.pid.0 running.within.process in
     let inside : a < length (process_at f r.pid.0).bytes = omega arith in
     slice_get-get_or (process_at f r.pid.0).bytes a 0 inside
     ∙ ap Some (sym (shows.private.each a inside))
@@ -78,7 +79,7 @@ private_same d f o r a running flat shows low =
 -- above them there is nothing up to the segments
 between_same : (d : MachineDesc) (f : FlatState) (o : Blocks) (r : Running) (a : ℕ) → IsRunning d r → IsFlat d f → (process_of d r.pid.0).size ≤ a → a < 1073741824 → slice_get (process_at f r.pid.0).bytes a ≡ read_at o (mapped d r.pid.0 r.held a)
 between_same d f o r a running flat past low =
-    let size : length (process_at f r.pid.0).bytes ≡ (process_of d r.pid.0).size = flat.sizes r.pid.0 running.process in
+    let size : length (process_at f r.pid.0).bytes ≡ (process_of d r.pid.0).size = flat.sizes r.pid.0 running.within.process in
     slice_get_past (process_at f r.pid.0).bytes a (omega arith)
     ∙ sym (ap (read_at o) (mapped_between d r.pid.0 r.held a past low))
 
@@ -123,7 +124,7 @@ shared_same d f o r t offset flat shows = elim (cases_lt t (length d.segments)) 
 
 same_at : (d : MachineDesc) (f : FlatState) (o : Blocks) (r : Running) (a : ℕ) → IsDescription d → IsRunning d r → IsFlat d f → Shows d f o r → flat_seen (process_at f r.pid.0).bytes f.segments r.pid.0 a ≡ read_at o (mapped d r.pid.0 r.held a)
 same_at d f o r a described running flat shows =
-    let small : (process_of d r.pid.0).size ≤ 65536 = private_small d r.pid.0 described running.process in
+    let small : (process_of d r.pid.0).size ≤ 65536 = private_small d r.pid.0 described running.within.process in
     elim (cases_lt a 1073741824) [
       | inl low ↦ flat_low (process_at f r.pid.0).bytes f.segments r.pid.0 a low ∙ (elim (cases_lt a (process_of d r.pid.0).size) [
         | inl inside ↦ private_same d f o r a running flat shows inside

@@ -4,6 +4,7 @@ use Rattle.std.proofs.lemmas.Bool.{cases_lt, cases_eq, eqb-true}
 use Rattle.std.proofs.lemmas.Nat.{ones_cat, zero_from_ones, div-add-mod', pow_pos, mod_below}
 use Rattle.seq_words.specs.Masks.{has_bit}
 use Rattle.seq_words.specs.declared.description.MachineDesc.{MachineDesc}
+use Rattle.seq_words.specs.Description.{process_of}
 use Rattle.seq_rv32.specs.Widths.{IsWidth}
 use Rattle.seq_rv32.specs.ByteMemory.{bytes_stored}
 use Rattle.seq_flat.specs.declared.state.SegmentState.{SegmentState}
@@ -17,13 +18,13 @@ use Rattle.seq_layout.specs.Shapes.{shape_of, index_of, segment_extent}
 use Rattle.seq_layout.specs.Copies.{Copies}
 use Rattle.seq_process.specs.declared.running.Running.{Running}
 use Rattle.seq_cache.specs.Changes.{Changes}
-use Rattle.seq_segments.specs.Map.{process_of, before_private, mapped}
+use Rattle.seq_segments.specs.Map.{before_private, mapped}
 use Rattle.seq_kernel.specs.Views.{Blocks, byte_in, read_by, stored_at, stored}
 use Rattle.seq_kernel.specs.Calls.{lines_of, line_index}
 use Rattle.seq_kernel.specs.Bounds.{IsRunning}
 use Rattle.seq_kernel.specs.Shown.{HoldBytes, outbox_byte, ShowsLine, ShowsSegment, Shows}
 use Rattle.seq_kernel.proofs.RefineStepsBytes.{put_out, read_after, read_whole, byte_after, byte_elsewhere, hold_stored, hold_elsewhere}
-use Rattle.seq_kernel.proofs.RefineStepsFlat.{segment_stored, owner_kept, moved_segment, moved_line}
+use Rattle.seq_flat.proofs.Moved.{segment_stored, owner_kept, moved_segment, moved_line}
 
 -- an owned line's number is below the count of lines
 pub index_below : (lines l : ℕ) → has_bit lines l ≡ true → index_of lines l < count_ones lines
@@ -102,7 +103,7 @@ low_stored d f p c r wrote at width v next running shows wide aligned low inside
           (hold_stored d p c r.pid.0 (before_private (process_of d r.pid.0)) x at width v (process_at f r.pid.0).bytes (λ n. shows.whole r.pid.0 n) shows.private refl block inside);
       segment = λ t there. segment_kept d f g (read_by d p c) (read_after d p c r.pid.0 x width v) r t
           (moved_segment f r.pid.0 wrote (Some (at, width, v)) next t ∙ ap (λ xs. get_or xs t no_segment) (segments_after_low f.segments at width v low))
-          (λ h. hold_elsewhere d p c r.pid.0 x width v (segment_extent (shape_of d) t) 0 (segment_at f t).bytes (λ e. let process = running.process in omega arith) h)
+          (λ h. hold_elsewhere d p c r.pid.0 x width v (segment_extent (shape_of d) t) 0 (segment_at f t).bytes (λ e. let process = running.within.process in omega arith) h)
           (shows.segment t there);
       line = λ l owned. line_kept d f g (read_by d p c) (read_after d p c r.pid.0 x width v) r l
           (moved_line f r.pid.0 wrote (Some (at, width, v)) next l)
@@ -158,7 +159,7 @@ pub high_stored : (d : MachineDesc) (f : FlatState) (p : Copies) (c : Changes) (
 high_stored d f p c r wrote at width v next running shows wide aligned high shared =
     let g : FlatState = moved f r.pid.0 wrote (Some (at, width, v)) next in
     let e : ℕ = segment_extent (shape_of d) (segment_number at) in
-    let apart : r.pid.0 ≢ e = (λ same. let process = running.process in omega arith) in
+    let apart : r.pid.0 ≢ e = (λ same. let process = running.within.process in omega arith) in
     record {
       whole = read_whole d p c e (offset_of at) width v shows.whole;
       private = subst (λ (xs : List ℕ). HoldBytes (read_after d p c e (offset_of at) width v) r.pid.0 (before_private (process_of d r.pid.0)) xs) (sym (bytes_after_high (process_at f r.pid.0).bytes at width v high))

@@ -2,7 +2,7 @@
 use Rattle.std.proofs.Common.{◌≡◌, ℕ, ◌<◌, false, List, length, arith, refl, sym, ◌∙◌, ap, subst}
 use Rattle.std.proofs.lemmas.Nat.Bits.{bit_at-zero}
 use Rattle.seq_words.specs.Masks.{has_bit}
-use Rattle.seq_words.specs.Description.{IsDescription}
+use Rattle.seq_words.specs.Description.{IsDescription, process_of}
 use Rattle.seq_words.specs.declared.description.MachineDesc.{MachineDesc}
 use Rattle.seq_words.specs.declared.regs.Regs.{Regs}
 use Rattle.seq_isa.specs.Meaning.{trap}
@@ -24,15 +24,16 @@ use Rattle.seq_pair.specs.declared.halves.Turn.TheVariants as turn
 use Rattle.seq_layout.specs.Copies.{Copies}
 use Rattle.seq_process.specs.declared.running.Running.{Running}
 use Rattle.seq_cache.specs.Changes.{Changes}
-use Rattle.seq_segments.specs.Map.{process_of, before_private}
+use Rattle.seq_segments.specs.Map.{before_private}
 use Rattle.seq_kernel.specs.Views.{Blocks, read_by, seen, admission}
 use Rattle.seq_kernel.specs.Turns.{ended}
 use Rattle.seq_kernel.specs.Steps.{after_effect, pair_turn}
 use Rattle.seq_kernel.specs.Bounds.{IsRunning}
-use Rattle.seq_kernel.specs.Shown.{HoldBytes, outbox_byte, ShowsLine, ShowsSegment, IsFlat, Shows}
-use Rattle.seq_kernel.specs.Refinement.{TakesStep}
+use Rattle.seq_kernel.specs.Shown.{HoldBytes, outbox_byte, ShowsLine, ShowsSegment, Shows}
+use Rattle.seq_flat.specs.Reached.{IsFlat}
+use Rattle.seq_kernel.proofs.RefineStepsTaken.{Taken}
 use Rattle.seq_kernel.proofs.RefineStepsPair.{Agrees, agrees, agreed_traps, unstruck_pc}
-use Rattle.seq_kernel.proofs.RefineStepsFlat.{ended_process, ended_segment, ended_line, given_up_owner, ended_flat}
+use Rattle.seq_flat.proofs.Moved.{ended_process, ended_segment, ended_line, given_up_owner, ended_flat}
 use Rattle.seq_kernel.proofs.RefineStepsInstruction.{process_there, process_lives, outcome_shown}
 
 -- nothing is held any more
@@ -69,7 +70,7 @@ ended_shows d f o r end running flat shows =
 -- A turn in which the halves agree on a trap is the flat machine's step.
 pub trap_is_flat : (d : MachineDesc) (inputs : List LineInput) (f : FlatState) (p : Copies) (r : Running) (c : Changes) (code : ℕ)
     → IsDescription d → IsRunning d r → IsFlat d f → Shows d f (read_by d p c) r → pair_turn d p r c ≡ turn.Agreed (effect.Trap code)
-    → TakesStep d inputs f p r.pid.0 (after_effect d p r c (effect.Trap code))
+    → Taken d inputs f p r.pid.0 (after_effect d p r c (effect.Trap code))
 trap_is_flat d inputs f p r c code described running flat shows turned =
     let o : Blocks = read_by d p c in
     let there : r.pid.0 < length f.processes = process_there d f r running flat in

@@ -4,13 +4,13 @@ use Rattle.std.specs.Prelude.{nat_lt}
 use Rattle.std.proofs.lemmas.Bool.{cases_lt, lt-ltb, le-ltb, ltb-true, and_parts}
 use Rattle.std.proofs.lemmas.List.Elements.{All-get_or}
 use Rattle.seq_words.specs.Masks.{has_bit}
-use Rattle.seq_words.specs.Description.{IsDescription, IsProcess, IsSegment}
+use Rattle.seq_words.specs.Description.{IsDescription, IsProcess, IsSegment, no_process, no_segment, process_of, segment_of}
 use Rattle.seq_words.specs.declared.description.MachineDesc.{MachineDesc}
 use Rattle.seq_layout.specs.declared.extents.Extent.{Extent}
 use Rattle.seq_layout.specs.Places.{IsPlace}
 use Rattle.seq_layout.specs.Shapes.{shape_of}
 use Rattle.seq_layout.proofs.Sizes.{process_has_blocks, segment_has_blocks}
-use Rattle.seq_segments.specs.Map.{no_process, no_segment, process_of, segment_of, before_private, mapped_shared, mapped}
+use Rattle.seq_segments.specs.Map.{before_private, mapped_shared, mapped}
 
 -- a process and a segment have whole blocks
 process_whole : (d : MachineDesc) (p : ℕ) → IsDescription d → p < length d.processes → (process_of d p).size % 32 ≡ 0

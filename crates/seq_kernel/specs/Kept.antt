@@ -1,25 +1,26 @@
 -- A turn keeps the bounds under which the next one may be taken.
-use Rattle.std.specs.Prelude.{◌≡◌, ◌⊎◌, ℕ, ◌+◌, ◌<◌, ◌≤◌, true, false, List, All, length, slice_index}
+use Rattle.std.specs.Prelude.{◌≡◌, ◌≢◌, ◌⊎◌, ℕ, ◌<◌, ◌≤◌, true, false, List, All, length, slice_index, Option, Some, None}
 use Rattle.seq_words.specs.Masks.{has_bit}
-use Rattle.seq_words.specs.Description.{IsDescription}
+use Rattle.seq_words.specs.Description.{IsDescription, process_of}
 use Rattle.seq_words.specs.declared.description.MachineDesc.{MachineDesc}
-use Rattle.seq_flat.specs.declared.state.End.TheVariants.{Live}
+use Rattle.seq_words.specs.declared.half.Half.{Half}
+use Rattle.seq_words.specs.declared.half.Half.TheVariants.{A, B}
+use Rattle.seq_words.specs.declared.regs.Regs.{Regs}
 use Rattle.seq_pair.specs.declared.halves.Pair.{Pair}
-use Rattle.seq_pair.specs.Turns.{IsAligned, unstruck}
+use Rattle.seq_pair.specs.Halves.{other_half, struck}
 use Rattle.seq_layout.specs.Places.{IsPlace}
 use Rattle.seq_layout.specs.Shapes.{shape_of, segment_extent}
 use Rattle.seq_layout.specs.Copies.{Copies}
 use Rattle.seq_process.specs.declared.running.Running.{Running}
 use Rattle.seq_cache.specs.declared.change.Change.{Change}
 use Rattle.seq_cache.specs.Changes.{Changes, IsCache}
-use Rattle.seq_segments.specs.Map.{process_of}
 use Rattle.seq_kernel.specs.declared.outcomes.Outcome.{Outcome}
 use Rattle.seq_kernel.specs.declared.outcomes.Outcome.TheVariants.{NeedsFlush}
 use Rattle.seq_kernel.specs.declared.outcomes.Cause.TheVariants as cause
 use Rattle.seq_kernel.specs.Turns.{Turned}
 use Rattle.seq_kernel.specs.Calls.{granted}
 use Rattle.seq_kernel.specs.Steps.{step_of}
-use Rattle.seq_kernel.specs.Bounds.{IsRunning, AreReadable}
+use Rattle.seq_kernel.specs.Bounds.{IsWithin, IsRunning, AreReadable}
 use Rattle.seq_kernel.specs.Refinement.{takes_step}
 
 -- the process and the cache are as they were
@@ -27,30 +28,25 @@ pub record IsUnchanged (r : Running) (c : Changes) (after : Turned) : Type 0 whe
   pub running : after.running ≡ r
   pub cache : after.cache ≡ c
 
--- x0 of the half that isn't struck is 0
-abbrev pub HasZero : Pair → Type 0
-HasZero pair = slice_index (unstruck pair).x 0 ≡ 0
+-- x0 of a half is 0
+abbrev pub IsZero : Regs → Type 0
+IsZero r = slice_index r.x 0 ≡ 0
 
--- The bounds of a process, whether it lives or has ended, and whether it has steps left or not. All but the last are those of
--- a process that runs.
-pub record IsWithin (d : MachineDesc) (r : Running) : Type 0 where
-  pub process : r.pid.0 < length d.processes
-  pub aligned : IsAligned r.pair.struck r.pair.a r.pair.b
-  pub held : (t : ℕ) → has_bit r.held t ≡ true → t < length d.segments
-  pub lines : (l : ℕ) → has_bit (process_of d r.pid.0).lines l ≡ true → l < 16
-  pub four_reads : length r.reads ≡ 4
-  pub four_writes : length r.writes ≡ 4
-  pub reads : (i : ℕ) → slice_index r.reads i ≤ d.journal
-  pub writes : (i : ℕ) → slice_index r.writes i ≤ 1048576
-  pub steps : r.steps ≤ r.used
-  pub used : r.used ≤ d.quantum
+-- x0 of each half that isn't struck is 0
+abbrev pub ZerosOf : Option Half → Regs → Regs → Type 0
+ZerosOf None a b = IsZero a × IsZero b
+ZerosOf (Some A) a b = IsZero b
+ZerosOf (Some B) a b = IsZero a
 
--- Where no step is taken, nothing changes. Else, where the process lives and has steps left, its next turn may be taken.
+abbrev pub HasZeros : Pair → Type 0
+HasZeros pair = ZerosOf pair.struck pair.a pair.b
+
+-- Where no step is taken, nothing changes. All bounds hold after a turn too: so the next one may be taken where the process lives
+-- and has steps left.
 pub record KeepsBounds (d : MachineDesc) (r : Running) (c : Changes) (after : Turned) : Type 0 where
   pub unchanged : (takes_step after.outcome → ⊥) → IsUnchanged r c after
   pub within : IsWithin d after.running
-  pub running : takes_step after.outcome → after.running.end ≡ Live → after.running.used < d.quantum → IsRunning d after.running
-  pub zero : HasZero r.pair → HasZero after.running.pair
+  pub zeros : HasZeros r.pair → HasZeros after.running.pair
   pub process : after.running.pid ≡ r.pid
   pub commits : after.running.commits ≡ r.commits
 
@@ -59,6 +55,12 @@ abbrev pub StepsKeepBounds : Type 0
 StepsKeepBounds =
     (d : MachineDesc) (p : Copies) (r : Running) (c : Changes) →
     IsDescription d → AreReadable d p → IsRunning d r → KeepsBounds d r c (step_of d p r c)
+
+-- A strike at a half, where the other isn't struck, keeps them too.
+abbrev pub StrikesKeepBounds : Type 0
+StrikesKeepBounds =
+    (d : MachineDesc) (r : Running) (half : Half) (reg mask : ℕ) → r.pair.struck ≢ Some (other_half half) →
+    (IsWithin d r → IsWithin d (record r { pair = struck r.pair half reg mask })) × (HasZeros r.pair → HasZeros (struck r.pair half reg mask))
 
 -- a block of the process past its context, or of a segment that it holds
 pub record IsOwn (d : MachineDesc) (pid held : ℕ) (change : Change) : Type 0 where
@@ -103,8 +105,7 @@ OwnBlocksAreBeside =
 -- the same of an acquire that its lock grants
 pub record KeepsGrant (d : MachineDesc) (r : Running) (t : ℕ) : Type 0 where
   pub within : IsWithin d (granted r t)
-  pub running : r.used + 1 < d.quantum → IsRunning d (granted r t)
-  pub zero : HasZero r.pair → HasZero (granted r t).pair
+  pub zeros : HasZeros r.pair → HasZeros (granted r t).pair
   pub own : (changes : List Change) → AreOwn d r changes → AreOwn d (granted r t) changes
 
 abbrev pub GrantsKeepBounds : Type 0

@@ -7,3 +7,9 @@ pub mod Bounds
 pub mod Shown
 pub mod Refinement
 pub mod Kept
+pub mod Counted
+pub mod Owners
+pub mod Causes
+pub mod Areas
+pub mod Depends
+pub mod Halves

@@ -1,6 +1,6 @@
 -- The outbox of a line: 256 bytes in eight blocks of its owner's extent. Output byte i stands at place i modulo 256.
-use Rattle.std.specs.Prelude.{ℕ, ◌+◌, ◌-◌, ◌*◌, ◌/◌, ◌%◌, ◌==◌, if◌then◌else◌, nat_lt, not, List, [], ◌∷◌, map, length, slice_index, count_by, is_some}
-use Rattle.std.specs.List.{range_with_len}
+use Rattle.std.specs.Prelude.{ℕ, Bool, ◌+◌, ◌-◌, ◌*◌, ◌/◌, ◌%◌, ◌==◌, if◌then◌else◌, nat_lt, not, List, [], ◌∷◌, map, filter, length, slice_index, count_by, is_some}
+use Rattle.std.specs.List.{range_with_len, list_any}
 use Rattle.seq_words.specs.declared.block.Block.{Block}
 use Rattle.seq_cache.specs.Changes.{Changes, changed, with_change}
 use Rattle.seq_kernel.specs.Views.{Blocks}
@@ -23,16 +23,21 @@ filled_byte from bytes k b j =
 unfoldable pub filled_block : ℕ → List ℕ → ℕ → Block → Block
 filled_block from bytes k b = record b { bytes = map (filled_byte from bytes k b) (range_with_len 0 32) }
 
--- how many blocks of an outbox so many bytes from number `from` on touch
-abbrev pub touched_count : ℕ → ℕ → ℕ
-touched_count from count = if count == 0 then 0 else (from % 32 + count - 1) / 32 + 1
+-- block k of an outbox is touched where one of its places gets one of so many bytes from number `from` on
+unfoldable pub is_touched : ℕ → ℕ → ℕ → Bool
+is_touched from count k = list_any (λ j. nat_lt (after_place from (32 * k + j)) count) (range_with_len 0 32)
 
--- the blocks that they touch, in the order of the bytes
+-- the i-th block of an outbox from that of the first byte on
 abbrev pub touched_block : ℕ → ℕ → ℕ
 touched_block from i = (from % 256 / 32 + i) % 8
 
-abbrev pub touched : ℕ → ℕ → List ℕ
-touched from count = map (touched_block from) (range_with_len 0 (touched_count from count))
+-- the blocks that are touched, from that of the first byte on
+unfoldable pub touched : ℕ → ℕ → List ℕ
+touched from count = filter (is_touched from count) (map (touched_block from) (range_with_len 0 8))
+
+-- how many they are, where there are at most 64 bytes
+abbrev pub touched_count : ℕ → ℕ → ℕ
+touched_count from count = if count == 0 then 0 else (from % 32 + count - 1) / 32 + 1
 
 -- how many of the touched blocks aren't changed yet
 abbrev pub needed : Changes → ℕ → ℕ → ℕ → ℕ → ℕ

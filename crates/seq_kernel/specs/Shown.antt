@@ -2,6 +2,7 @@
 use Rattle.std.specs.Prelude.{◌≡◌, ℕ, ◌+◌, ◌-◌, ◌*◌, ◌%◌, ◌<◌, true, if◌then◌else◌, nat_lt, List, length, slice_index, slice_get, Some}
 use Rattle.seq_words.specs.Masks.{has_bit}
 use Rattle.seq_words.specs.declared.description.MachineDesc.{MachineDesc}
+use Rattle.seq_words.specs.Description.{process_of}
 use Rattle.seq_flat.specs.declared.inputs.LineInput.{LineInput}
 use Rattle.seq_flat.specs.declared.state.FlatState.{FlatState}
 use Rattle.seq_flat.specs.State.{process_at, segment_at, line_at, input_at}
@@ -10,7 +11,7 @@ use Rattle.seq_pair.specs.Turns.{unstruck}
 use Rattle.seq_layout.specs.Shapes.{shape_of, segment_extent}
 use Rattle.seq_layout.specs.Copies.{Copies}
 use Rattle.seq_process.specs.declared.running.Running.{Running}
-use Rattle.seq_segments.specs.Map.{process_of, segment_of, before_private}
+use Rattle.seq_segments.specs.Map.{before_private}
 use Rattle.seq_kernel.specs.Views.{Blocks, byte_in}
 use Rattle.seq_kernel.specs.Calls.{lines_of, line_index, line_word, journal_byte}
 
@@ -33,14 +34,6 @@ pub record ShowsLine (d : MachineDesc) (f : FlatState) (o : Blocks) (r : Running
 pub record ShowsSegment (d : MachineDesc) (f : FlatState) (o : Blocks) (r : Running) (t : ℕ) : Type 0 where
   pub held : has_bit r.held t ≡ is_owner r.pid.0 (segment_at f t).owner
   pub bytes : has_bit r.held t ≡ true → HoldBytes o (segment_extent (shape_of d) t) 0 (segment_at f t).bytes
-
--- a flat state of the description's machine: as many processes, segments and lines, and their sizes
-pub record IsFlat (d : MachineDesc) (f : FlatState) : Type 0 where
-  pub processes : length f.processes ≡ length d.processes
-  pub segments : length f.segments ≡ length d.segments
-  pub lines : length f.lines ≡ 16
-  pub sizes : (p : ℕ) → p < length d.processes → length (process_at f p).bytes ≡ (process_of d p).size
-  pub segment_sizes : (t : ℕ) → t < length d.segments → length (segment_at f t).bytes ≡ (segment_of d t).size
 
 -- the running process is the process with its number in the flat state, and every block that is read has its 32 bytes
 pub record Shows (d : MachineDesc) (f : FlatState) (o : Blocks) (r : Running) : Type 0 where

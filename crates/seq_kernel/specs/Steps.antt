@@ -32,14 +32,6 @@ after_turn d p r c turn.Diverged = stays Diverged r c
 abbrev pub pair_turn : MachineDesc → Copies → Running → Changes → Turn
 pair_turn d p r c = turn_of (admission d r.pid.0 r.held c) (seen d r.pid.0 r.held (read_by d p c)) r.pair
 
--- the cache after the turn of the pair
-abbrev pub cache_after : MachineDesc → Copies → Running → Changes → Turn → Changes
-cache_after d p r c (turn.Agreed (effect.Next wrote store next)) = with_store d r.pid.0 r.held p c store
-cache_after d p r c (turn.Agreed effect.Call) = c
-cache_after d p r c (turn.Agreed (effect.Trap code)) = c
-cache_after d p r c (turn.Agreed effect.Full) = c
-cache_after d p r c turn.Diverged = c
-
 -- the halves differ in their pcs or in their effects
 abbrev pub DifferInTurn : MachineDesc → Copies → Running → Changes → Type 0
 DifferInTurn d p r c = Differ (admission d r.pid.0 r.held c) (seen d r.pid.0 r.held (read_by d p c)) r.pair

@@ -1,17 +1,18 @@
 // Kernel calls on the hardware. x17 holds the number of a call, x10 to x12 its arguments, and x10 gets the answer.
 ghost use Rattle.std.specs.Prelude.{◌≡◌, ◌+◌, ◌-◌, ◌/◌, ◌%◌, ◌^◌, ◌<◌, ◌≤◌, ◌↔◌, true, IsTrue, IfSome, Some, is_some, length, take, option_map, nat_lt, count_ones};
 ghost use Rattle.seq_words.specs.Masks.{has_bit};
-ghost use Rattle.seq_words.specs.Description.{IsDescription, line_count};
+ghost use Rattle.seq_words.specs.Description.{IsDescription, line_count, process_of};
 ghost use Rattle.seq_isa.specs.Meaning.{register};
 ghost use Rattle.seq_flat.specs.Memory.{bytes_from};
 ghost use Rattle.seq_layout.specs.Shapes.{shape_of, index_of};
 ghost use Rattle.seq_layout.specs.Copies.{Matches, copies};
 ghost use Rattle.seq_cache.specs.Changes.{Changes};
-ghost use Rattle.seq_segments.specs.Map.{process_of};
 ghost use Rattle.seq_kernel.specs.Views.{read_by, seen};
 ghost use Rattle.seq_kernel.specs.Turns.{counted, half_answered, answered, ended};
 ghost use Rattle.seq_kernel.specs.Calls.{acquire, release, line_word, journal_byte, read, put_out, write, numbered, agree_on_call, AgreeOnCall, call_of};
 ghost use Rattle.seq_kernel.specs.Bounds.{IsRunning, AreReadable};
+ghost use Rattle.seq_kernel.specs.Causes.{Acquires, AwaitsFor, FlushesFor};
+ghost use Rattle.seq_kernel.specs.Refinement.{takes_step};
 
 use crate::outbox::Outbox;
 use crate::{Cause, Outcome, Reason};
@@ -307,7 +308,7 @@ fn read(
 }
 
 // The byte at an address that a process has.
-#[tactic(auto, unfolding(crate::specs::Views::seen))]
+#[tactic(auto, unfolding(crate::specs::Views::seen, seq_cache::specs::Overlay::overlay))]
 fn byte(
     r: &Running,
     cache: &Cache,
@@ -324,7 +325,11 @@ fn byte(
     ensures { result ≡ seen desc.now r.now.pid.0 r.now.held (read_by desc.now (copies layout.now memories.now) cache.now) address }
 {
     let (extent, at) = map(desc, r.pid, r.held, address)?;
-    let block = cache.read(extent, at / BLOCK_BYTES, memories, layout);
+    let n = at / BLOCK_BYTES;
+    let block = match cache.find(extent, n) {
+        Some(block) => block,
+        None => layout.first_block(memories, extent, n),
+    };
     Some(block.bytes[(at % BLOCK_BYTES) as usize])
 }
 
@@ -394,7 +399,7 @@ fn put_out(
         return answer(r, OUTPUT_FULL);
     }
     let sent = line_word(memories, layout, desc, line, SENT_COUNT);
-    if (from + count) as u64 > OUTBOX_BYTES + sent {
+    if u64::from(from + count).saturating_sub(sent) > OUTBOX_BYTES {
         return Outcome::Waits(Reason::Outbox(line, sent));
     }
     let owner = Extent(r.pid.0 as u32);
@@ -503,6 +508,13 @@ pub fn call(
     ensures running { r.new ≡ (call_of desc.now (copies layout.now memories.now) r.old cache.old).running }
     ensures cache { cache.new ≡ (call_of desc.now (copies layout.now memories.now) r.old cache.old).cache }
     ensures diverged { (result ≡ Outcome.Diverged) ↔ ¬ (AgreeOnCall r.old.pair) }
+    ensures claims { (segment : Seg) → (result ≡ Outcome.Claim segment) ↔ Acquires desc.now r.old segment.0 }
+    ensures waits { (why : Reason) → (result ≡ Outcome.Waits why) ↔ AwaitsFor desc.now (copies layout.now memories.now) r.old cache.old why }
+    ensures flushes { (why : Cause) → (result ≡ Outcome.NeedsFlush why) ↔ FlushesFor desc.now (copies layout.now memories.now) r.old cache.old why }
+
+    // A call that takes no step changes nothing.
+    ensures running_stays { (takes_step result → ⊥) → r.new ≡ r.old }
+    ensures cache_stays { (takes_step result → ⊥) → cache.new ≡ cache.old }
 {
     if !agree(&r.pair) {
         return Outcome::Diverged;

@@ -72,7 +72,7 @@ impl Outbox {
     }
 
     // How many of the blocks that so many bytes touch aren't changed yet.
-    #[tactic(auto, using(crate::proofs::OutboxFills::counted_more))]
+    #[tactic(auto, using(crate::proofs::OutboxFills::counted_more, crate::proofs::OutboxTouched::touched_is))]
     fn needed(&self, cache: &Cache, count: u32) -> u32
         requires index { self.now.index < 4 }
         requires few { count ≤ 64 }
@@ -123,7 +123,7 @@ impl Outbox {
     }
 
     /// Puts bytes into the outbox, for which the cache has room.
-    #[tactic(auto, using(crate::proofs::OutboxFills::filling_begins, crate::proofs::OutboxFills::filling_admits, crate::proofs::OutboxFills::filling_more, crate::proofs::OutboxFills::filling_ends))]
+    #[tactic(auto, using(crate::proofs::OutboxFills::filling_admits, crate::proofs::OutboxFills::filling_more, crate::proofs::OutboxFills::filling_ends))]
     pub fn fill(&self, cache: &mut Cache, memories: &Memories, layout: &Layout, bytes: &[u8])
         requires matches { Matches layout.now memories.now }
         requires served { IsServed layout.now (copies layout.now memories.now) self.now.owner.0 }

@@ -1,59 +1,33 @@
 // Turns over memories that are made by hand: traps, a struck half, and the step of an acquire whose lock is held.
 ghost use Rattle.std.specs.Prelude.{◌≡◌, ◌+◌, ◌%◌, ◌<◌, ◌≤◌, [], ◌∷◌, None, length, IfOk};
 ghost use Rattle.std.proofs.Props.{props};
-ghost use Rattle.seq_words.specs.Description.{IsDescription};
+ghost use Rattle.seq_words.specs.Description.{IsDescription, process_of};
 ghost use Rattle.seq_memory.specs.States.{empty_element};
 ghost use Rattle.seq_layout.specs.Places.{start_of, IsPlace};
 ghost use Rattle.seq_layout.specs.Shapes.{shape_of};
 ghost use Rattle.seq_layout.specs.Copies.{Matches, copies};
-ghost use Rattle.seq_segments.specs.Map.{process_of};
 ghost use Rattle.seq_kernel.specs.Bounds.{IsRunning, AreReadable};
 
 use crate::{Cause, Outcome, call, grant, step};
 use seq_cache::Cache;
 use seq_flat::End;
-use seq_isa::{Instr, encode};
 use seq_layout::{Extent, Layout};
 use seq_memory::{Memories, MemoryElement, State};
 use seq_pair::Pair;
 use seq_process::{Running, save};
+use seq_samples::two_images;
 use seq_words::{
-    Block, Bytes, Half, Items, MachineDesc, Me, NoMemory, Pid, ProcessDesc, Regs, Seg, SegmentDesc,
-    has_bit, set_block_word,
+    Block, Bytes, Half, Items, MachineDesc, Me, NoMemory, Pid, Regs, Seg, has_bit, set_block_word,
 };
 use std::alloc::Global;
 use std::process::Abort;
-use std::test::Fail;
 
 /// The extent of process 0, and the first block of its private bytes.
 const OWNER: Extent = Extent(0);
 
 const PRIVATE: u32 = 16;
 
-// A segment of 32 bytes.
-fn segment(alloc: Global) -> SegmentDesc
-    ensures { result ≡ record { size = 32; first = [] } }
-{
-    SegmentDesc {
-        size: 32,
-        first: Bytes::new(alloc),
-    }
-}
-
-// A process that is granted segments 0, 1 and 2.
-fn process(alloc: Global, size: u32, lines: u16) -> ProcessDesc
-    ensures { result ≡ record { size = size; entry = 0; image = []; lines = lines; grants = 7 } }
-{
-    ProcessDesc {
-        size,
-        entry: 0,
-        image: Bytes::new(alloc),
-        lines,
-        grants: 7,
-    }
-}
-
-// Two processes, of which the first owns line 0, and four segments.
+// Two processes of 128 and 32 bytes, of which the first owns line 0, and four segments of 32 bytes.
 fn description(alloc: Global) -> Result<MachineDesc, NoMemory>
     ensures described { IfOk result IsDescription }
     ensures memories { IfOk result (λ d. d.memories ≡ 2) }
@@ -65,27 +39,8 @@ fn description(alloc: Global) -> Result<MachineDesc, NoMemory>
     ensures blocks { IfOk result (λ d. (shape_of d).blocks ≡ 20 ∷ 9 ∷ 1 ∷ 1 ∷ 1 ∷ 1 ∷ 1 ∷ []) }
     ensures words { IfOk result (λ d. (shape_of d).words ≡ 1 ∷ 1 ∷ 1 ∷ 1 ∷ 1 ∷ 1 ∷ 3 ∷ []) }
 {
-    let Ok(processes) = vec![in alloc; process(alloc, 128, 1), process(alloc, 32, 0)] else {
-        return Err(NoMemory);
-    };
-    let Ok(segments) = vec![in alloc;
-        segment(alloc),
-        segment(alloc),
-        segment(alloc),
-        segment(alloc),
-    ] else {
-        return Err(NoMemory);
-    };
-    Ok(MachineDesc {
-        processors: 1,
-        memories: 2,
-        ios: 1,
-        cache: 16,
-        quantum: 1000,
-        journal: 32,
-        segments: Items::from_vec(segments),
-        processes: Items::from_vec(processes),
-    })
+    let desc = two_images(alloc, 128, Bytes::new(alloc), 32, Bytes::new(alloc))?;
+    Ok(desc)
 }
 
 // A memory in service, with room for what it keeps. All of it is zero.
@@ -203,6 +158,19 @@ impl Bench {
         self.process_at(regs, kept)
     }
 
+    // A turn of the process, and a call of it.
+    fn step(&self, r: &mut Running, cache: &mut Cache) -> Outcome
+        requires { IsRunning self.now.desc r.old }
+    {
+        step(r, cache, &self.memories, &self.layout, &self.desc)
+    }
+
+    fn call(&self, r: &mut Running, cache: &mut Cache) -> Outcome
+        requires { IsRunning self.now.desc r.old }
+    {
+        call(r, cache, &self.memories, &self.layout, &self.desc)
+    }
+
     // The same process after half b was struck in a register.
     fn struck(&self, mut r: Running, reg: u8) -> Running
         requires running { IsRunning self.now.desc r }
@@ -221,6 +189,8 @@ impl Bench {
 enum After {
     /// All as it was.
     Same,
+    /// What x5 holds then.
+    Moved(u32),
     /// The answer in x10, and what it holds, has read and has written then.
     Answered(u32, Kept),
     Ended(End),
@@ -239,6 +209,12 @@ fn expected(before: &Running, after: After) -> Running {
     let mut r = *before;
     match after {
         After::Same => return r,
+        After::Moved(x5) => {
+            let x10 = r.pair.a.x[10];
+            go_on(&mut r.pair, x10);
+            r.pair.a.x[5] = x5;
+            r.pair.b.x[5] = x5;
+        }
         After::Answered(x10, kept) => {
             go_on(&mut r.pair, x10);
             r.held = kept.held;
@@ -306,10 +282,6 @@ fn program(word: u32) -> Block {
     block
 }
 
-fn word_of(instr: Instr) -> Result<u32, Fail> {
-    Ok(encode(&instr).ok_or("an instruction is out of range")?)
-}
-
 // The registers of a process at an instruction, which reads x6.
 fn at(pc: u32, x6: u32) -> Regs {
     let mut regs = asks([5, 0, 0, 0]);
@@ -318,7 +290,7 @@ fn at(pc: u32, x6: u32) -> Regs {
     regs
 }
 
-// One step of process 0, and what comes of it.
+// One step of process 0, which is granted segments 0 and 1, and what comes of it.
 fn check_step(
     rt: &impl Abort,
     bench: &mut Bench,
@@ -329,120 +301,146 @@ fn check_step(
     bench.set_block(PRIVATE, &program(word));
     let mut r = bench.running(rt, at(0, x6), having(3, 1, 2));
     let wanted = expected(&r, after);
-    let found = step(&mut r, cache, &bench.memories, &bench.layout, &bench.desc);
-    assert_eq!(rt; found, outcome, "{word:#x} {x6:#x}");
+    assert_eq!(rt; bench.step(&mut r, cache), outcome, "{word:#x} {x6:#x}");
     assert!(rt; is_same(&r, &wanted), "{word:#x} {x6:#x} {r:?}");
     r
 }
 
-// The words of lw x5, 0(x6); of sw x17, 0(x6); and of jalr x5, 0(x6).
+// The words of addi x5, x6, 7; of lw x5, 0(x6); of sw x17, 0(x6); and of jalr x5, 0(x6).
+const ADD: u32 = 0x0073_0293;
+
 const LOAD: u32 = 0x0003_2283;
 
 const STORE: u32 = 0x0113_2023;
 
 const JUMP: u32 = 0x0003_02e7;
 
+const ECALL: u32 = 0x0000_0073;
+
 const EBREAK: u32 = 0x0010_0073;
 
-// An instruction, x6, and the cause of the trap.
-const TRAPS: [(u32, u32, u8); 9] = [
-    (EBREAK, 0, 3),
-    (0, 0, 2),
-    (LOAD, 128, 5),
-    (LOAD, 0x4002_0000, 5),
-    (LOAD, 38, 4),
-    (STORE, 38, 6),
-    (STORE, 128, 7),
-    (STORE, 0x4002_0000, 7),
-    (JUMP, 6, 0),
-];
+// An instruction, x6, and x5 afterwards.
+fn check_move(rt: &impl Abort, bench: &mut Bench, cache: &mut Cache, word: u32, x6: u32, x5: u32) {
+    let after = (Outcome::Done, After::Moved(x5));
+    check_step(rt, bench, cache, (word, x6), after);
+}
 
+// What is stored is 5, which is loaded then.
 #[test]
-fn traps(rt: HostRuntime) -> Result<(), Fail> {
+fn instructions(rt: HostRuntime) -> Result<(), NoMemory> {
     let mut bench = new_bench(rt.alloc())?;
     let mut cache = Cache::new(rt.alloc(), 16)?;
-    for (word, x6, code) in TRAPS {
-        let flush = Outcome::NeedsFlush(Cause::Trap);
-        let after = After::Ended(End::Trapped(code, 0));
-        let trapped = check_step(&rt, &mut bench, &mut cache, (word, x6), (flush, after));
-        assert!(rt; trapped.commits < 10);
-        let context = save(&trapped);
-        assert!(rt; context.is_some_and(|c| (c.end, c.value, c.end_pc) == (2, u32::from(code), 0)));
-        assert!(rt; context.is_some_and(|c| c.held == 0 && c.commits == 4 && c.regs.pc == 0));
-    }
+    check_move(&rt, &mut bench, &mut cache, ADD, 3, 10);
+    check_move(&rt, &mut bench, &mut cache, LOAD, 0, LOAD);
+    check_move(&rt, &mut bench, &mut cache, LOAD, 36, 0);
+    check_move(&rt, &mut bench, &mut cache, STORE, 36, 55);
+    check_move(&rt, &mut bench, &mut cache, LOAD, 36, 5);
+    check_move(&rt, &mut bench, &mut cache, STORE, 0x4001_001c, 55);
+    check_move(&rt, &mut bench, &mut cache, LOAD, 0x4001_001c, 5);
+    assert_eq!(rt; cache.dirty(), 2);
+    Ok(())
+}
+
+// The context of a process that was trapped.
+fn check_context(rt: &impl Abort, trapped: &Running, code: u8) {
+    assert!(rt; trapped.commits < 10);
+    let context = save(trapped);
+    assert!(rt; context.is_some_and(|c| (c.end, c.value, c.end_pc) == (2, u32::from(code), 0)));
+    assert!(rt; context.is_some_and(|c| c.held == 0 && c.commits == 4 && c.regs.pc == 0));
+}
+
+// An instruction, x6, and the cause of the trap.
+fn check_trap(rt: &impl Abort, bench: &mut Bench, cache: &mut Cache, word: u32, x6: u32, code: u8) {
+    let flush = Outcome::NeedsFlush(Cause::Trap);
+    let after = After::Ended(End::Trapped(code, 0));
+    let trapped = check_step(rt, bench, cache, (word, x6), (flush, after));
+    check_context(rt, &trapped, code);
+}
+
+#[test]
+fn traps(rt: HostRuntime) -> Result<(), NoMemory> {
+    let mut bench = new_bench(rt.alloc())?;
+    let mut cache = Cache::new(rt.alloc(), 16)?;
+    check_trap(&rt, &mut bench, &mut cache, EBREAK, 0, 3);
+    check_trap(&rt, &mut bench, &mut cache, 0, 0, 2);
+    check_trap(&rt, &mut bench, &mut cache, LOAD, 128, 5);
+    check_trap(&rt, &mut bench, &mut cache, LOAD, 0x4002_0000, 5);
+    check_trap(&rt, &mut bench, &mut cache, LOAD, 38, 4);
+    check_trap(&rt, &mut bench, &mut cache, STORE, 38, 6);
+    check_trap(&rt, &mut bench, &mut cache, STORE, 128, 7);
+    check_trap(&rt, &mut bench, &mut cache, STORE, 0x4002_0000, 7);
+    check_trap(&rt, &mut bench, &mut cache, JUMP, 6, 0);
     assert_eq!(rt; cache.dirty(), 0);
     Ok(())
 }
 
 // An instruction that is not among the private bytes.
+fn check_outside(rt: &impl Abort, bench: &Bench, cache: &mut Cache, pc: u32) {
+    let mut r = bench.running(rt, at(pc, 0), having(3, 1, 2));
+    let wanted = expected(&r, After::Ended(End::Trapped(1, pc)));
+    let flush = Outcome::NeedsFlush(Cause::Trap);
+    assert_eq!(rt; bench.step(&mut r, cache), flush, "{pc:#x}");
+    assert!(rt; is_same(&r, &wanted), "{pc:#x} {r:?}");
+}
+
 #[test]
-fn a_pc_outside(rt: HostRuntime) -> Result<(), Fail> {
+fn a_pc_outside(rt: HostRuntime) -> Result<(), NoMemory> {
     let bench = new_bench(rt.alloc())?;
     let mut cache = Cache::new(rt.alloc(), 16)?;
-    for pc in [128, 0x4002_0000, 0xffff_fffc] {
-        let mut r = bench.running(&rt, at(pc, 0), having(3, 1, 2));
-        let wanted = expected(&r, After::Ended(End::Trapped(1, pc)));
-        let found = step(
-            &mut r,
-            &mut cache,
-            &bench.memories,
-            &bench.layout,
-            &bench.desc,
-        );
-        assert_eq!(rt; found, Outcome::NeedsFlush(Cause::Trap), "{pc:#x}");
-        assert!(rt; is_same(&r, &wanted), "{pc:#x} {r:?}");
-    }
+    check_outside(&rt, &bench, &mut cache, 128);
+    check_outside(&rt, &bench, &mut cache, 0x4002_0000);
+    check_outside(&rt, &bench, &mut cache, 0xffff_fffc);
     Ok(())
+}
+
+// A call of self, and a step of it, where half b is struck in a register.
+fn check_struck(
+    rt: &impl Abort,
+    bench: &Bench,
+    cache: &mut Cache,
+    reg: u8,
+    outcome: Outcome,
+    after: After,
+) {
+    let whole = bench.running(rt, asks([5, 0, 0, 0]), having(0, 0, 0));
+    assert!(rt; 1 <= reg && reg < 32);
+    let mut called = bench.struck(whole, reg);
+    let mut stepped = called;
+    let wanted = expected(&called, after);
+    assert_eq!(rt; bench.call(&mut called, cache), outcome, "{reg}");
+    assert!(rt; is_same(&called, &wanted), "{reg} {called:?}");
+    assert_eq!(rt; bench.step(&mut stepped, cache), outcome, "{reg}");
+    assert!(rt; is_same(&stepped, &wanted), "{reg} {stepped:?}");
 }
 
 // What x9 holds is no part of a call; each of x10 to x17 is.
 #[test]
-fn a_struck_half(rt: HostRuntime) -> Result<(), Fail> {
+fn a_struck_half(rt: HostRuntime) -> Result<(), NoMemory> {
     let mut bench = new_bench(rt.alloc())?;
-    bench.set_block(PRIVATE, &program(word_of(Instr::Ecall)?));
+    bench.set_block(PRIVATE, &program(ECALL));
     let mut cache = Cache::new(rt.alloc(), 16)?;
-    for (reg, outcome, after) in [
-        (9, Outcome::Done, answered(0, 0)),
-        (10, Outcome::Diverged, After::Same),
-        (11, Outcome::Diverged, After::Same),
-        (17, Outcome::Diverged, After::Same),
-    ] {
-        let whole = bench.running(&rt, asks([5, 0, 0, 0]), having(0, 0, 0));
-        let mut called = bench.struck(whole, reg);
-        let mut stepped = called;
-        let wanted = expected(&called, after);
-        let found = call(
-            &mut called,
-            &mut cache,
-            &bench.memories,
-            &bench.layout,
-            &bench.desc,
-        );
-        assert_eq!(rt; found, outcome, "{reg}");
-        assert!(rt; is_same(&called, &wanted), "{reg} {called:?}");
-        let found = step(
-            &mut stepped,
-            &mut cache,
-            &bench.memories,
-            &bench.layout,
-            &bench.desc,
-        );
-        assert_eq!(rt; found, outcome, "{reg}");
-        assert!(rt; is_same(&stepped, &wanted), "{reg} {stepped:?}");
-    }
+    check_struck(&rt, &bench, &mut cache, 9, Outcome::Done, answered(0, 0));
+    check_struck(&rt, &bench, &mut cache, 10, Outcome::Diverged, After::Same);
+    check_struck(&rt, &bench, &mut cache, 11, Outcome::Diverged, After::Same);
+    check_struck(&rt, &bench, &mut cache, 17, Outcome::Diverged, After::Same);
     assert_eq!(rt; cache.dirty(), 0);
     Ok(())
 }
 
+// The step of an acquire: what is held before it, the segment, and what is held after it.
+fn check_grant(rt: &impl Abort, bench: &Bench, &(held, segment, after): &(u16, u8, u16)) {
+    let mut r = bench.running(rt, asks([1, segment as u32, 0, 0]), having(held, 4, 5));
+    let wanted = expected(&r, After::Answered(0, having(after, 4, 5)));
+    assert!(rt; segment < 16 && !has_bit(r.held, segment));
+    grant(&mut r, Seg(segment));
+    assert!(rt; is_same(&r, &wanted), "{held} {segment} {r:?}");
+}
+
 #[test]
-fn grants(rt: HostRuntime) -> Result<(), Fail> {
+fn grants(rt: HostRuntime) -> Result<(), NoMemory> {
     let bench = new_bench(rt.alloc())?;
-    for (held, segment, after) in [(0, 0, 1), (1, 1, 3), (3, 2, 7), (0, 2, 4)] {
-        let mut r = bench.running(&rt, asks([1, segment as u32, 0, 0]), having(held, 4, 5));
-        let wanted = expected(&r, After::Answered(0, having(after, 4, 5)));
-        assert!(rt; segment < 16 && !has_bit(r.held, segment));
-        grant(&mut r, Seg(segment));
-        assert!(rt; is_same(&r, &wanted), "{held} {segment} {r:?}");
+    for row in &[(0, 0, 1), (1, 1, 3), (3, 2, 7), (0, 2, 4)] {
+        check_grant(&rt, &bench, row);
     }
     Ok(())
 }

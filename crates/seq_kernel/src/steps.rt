@@ -2,12 +2,13 @@
 ghost use Rattle.std.specs.Prelude.{◌≡◌, ◌↔◌, ◌⊎◌, ◌+◌, ◌^◌, ◌<◌, ◌≤◌, false};
 ghost use Rattle.seq_words.specs.Masks.{has_bit};
 ghost use Rattle.seq_words.specs.Description.{IsDescription};
-ghost use Rattle.seq_pair.specs.Turns.{pair_after};
+ghost use Rattle.seq_pair.specs.Turns.{pair_after, port_after};
 ghost use Rattle.seq_layout.specs.Shapes.{shape_of};
 ghost use Rattle.seq_layout.specs.Copies.{Matches, copies};
+ghost use Rattle.seq_kernel.specs.Views.{stored};
 ghost use Rattle.seq_kernel.specs.Turns.{ended};
 ghost use Rattle.seq_kernel.specs.Calls.{granted};
-ghost use Rattle.seq_kernel.specs.Steps.{pair_turn, cache_after, DifferInTurn, DifferInCall, step_of};
+ghost use Rattle.seq_kernel.specs.Steps.{pair_turn, DifferInTurn, DifferInCall, step_of};
 ghost use Rattle.seq_kernel.specs.Bounds.{IsRunning, AreReadable};
 
 use crate::calls::{answer, call, count};
@@ -38,7 +39,7 @@ fn turn(
     ensures turn { result ≡ pair_turn desc.now (copies layout.now memories.now) r.old cache.old }
     ensures differ { (result ≡ Turn.Diverged) ↔ DifferInTurn desc.now (copies layout.now memories.now) r.old cache.old }
     ensures running { r.new ≡ record r.old { pair = pair_after r.old.pair result } }
-    ensures cache { cache.new ≡ cache_after desc.now (copies layout.now memories.now) r.old cache.old result }
+    ensures cache { cache.new ≡ port_after (stored desc.now r.old.pid.0 r.old.held (copies layout.now memories.now)) cache.old result }
 {
     let mut view = View {
         desc,

@@ -1,10 +1,12 @@
 // Kernel calls on two memories, of a process that owns line 0 and may acquire segments 0 and 2 of three.
 ghost use Rattle.std.specs.Prelude.{◌≡◌, ◌<◌, ◌≤◌, [], ◌∷◌, length, None, IfOk};
+ghost use Rattle.std.proofs.Props.{props};
 ghost use Rattle.seq_words.specs.Description.{IsDescription};
 ghost use Rattle.seq_words.specs.declared.description.MachineDesc.{MachineDesc};
 ghost use Rattle.seq_memory.specs.declared.element.State.TheVariants.{InService};
 ghost use Rattle.seq_layout.specs.Shapes.{shape_of};
 ghost use Rattle.seq_layout.specs.Copies.{Matches, copies};
+ghost use Rattle.seq_samples.specs.Samples.{one_line};
 ghost use Rattle.seq_kernel.specs.Bounds.{IsRunning, AreReadable};
 
 use crate::{Cause, Outcome, Reason, call};
@@ -14,11 +16,10 @@ use seq_layout::{Extent, Layout};
 use seq_memory::{Memories, MemoryElement};
 use seq_pair::Pair;
 use seq_process::Running;
-use seq_words::{
-    Block, Bytes, Half, Items, LineNo, MachineDesc, NoMemory, Pid, ProcessDesc, Regs, Seg,
-    SegmentDesc,
-};
+use seq_samples::one_line;
+use seq_words::{Block, Half, Items, LineNo, MachineDesc, NoMemory, Pid, Regs, Seg};
 use std::alloc::Global;
+use std::process::Abort;
 use std::test::Fail;
 
 /// A machine in which the journal of line 0 has so many bytes.
@@ -27,57 +28,27 @@ struct Machine {
     desc: MachineDesc,
     layout: Layout,
     memories: Memories,
+    ghost described: { IsDescription desc } by { Prim.hlevel props },
+    ghost processes: { desc.processes ≡ record { size = 64; entry = 0; image = []; lines = 1; grants = 5 } ∷ [] },
+    ghost segments: { length desc.segments ≡ 3 },
+    ghost quantum: { desc.quantum ≡ 1000 },
+    ghost journal: { desc.journal ≡ 32 },
+    ghost shape: { layout ≡ shape_of desc },
+    ghost matches: { Matches layout memories } by { Prim.hlevel props },
+    ghost readable: { AreReadable desc (copies layout memories) } by { Prim.hlevel props },
 }
 
-// A segment of one block of zeros.
-fn segment(alloc: Global) -> SegmentDesc
-    ensures { result ≡ record { size = 32; first = [] } }
+// The shape of the machine with one line.
+fn layout_of(alloc: Global, desc: &MachineDesc) -> Result<Layout, NoMemory>
+    requires value { desc.now ≡ one_line }
+    requires described { IsDescription desc.now }
+    ensures shape { IfOk result (λ l. l ≡ shape_of desc.now) }
+    ensures memories { IfOk result (λ l. l.memories ≡ 2) }
+    ensures blocks { IfOk result (λ l. l.blocks ≡ 18 ∷ 1 ∷ 1 ∷ 1 ∷ 1 ∷ []) }
+    ensures words { IfOk result (λ l. l.words ≡ 1 ∷ 1 ∷ 1 ∷ 1 ∷ 3 ∷ []) }
 {
-    SegmentDesc {
-        size: 32,
-        first: Bytes::new(alloc),
-    }
-}
-
-// A process of two blocks of zeros.
-fn process(alloc: Global) -> ProcessDesc
-    ensures { result ≡ record { size = 64; entry = 0; image = []; lines = 1; grants = 5 } }
-{
-    ProcessDesc {
-        size: 64,
-        entry: 0,
-        image: Bytes::new(alloc),
-        lines: 1,
-        grants: 5,
-    }
-}
-
-fn description(alloc: Global) -> Result<MachineDesc, NoMemory>
-    ensures described { IfOk result IsDescription }
-    ensures processes { IfOk result (λ d. d.processes ≡ record { size = 64; entry = 0; image = []; lines = 1; grants = 5 } ∷ []) }
-    ensures segments { IfOk result (λ d. length d.segments ≡ 3) }
-    ensures quantum { IfOk result (λ d. d.quantum ≡ 1000) }
-    ensures journal { IfOk result (λ d. d.journal ≡ 32) }
-    ensures memories { IfOk result (λ d. (shape_of d).memories ≡ 2) }
-    ensures blocks { IfOk result (λ d. (shape_of d).blocks ≡ 18 ∷ 1 ∷ 1 ∷ 1 ∷ 1 ∷ []) }
-    ensures words { IfOk result (λ d. (shape_of d).words ≡ 1 ∷ 1 ∷ 1 ∷ 1 ∷ 3 ∷ []) }
-{
-    let Ok(processes) = vec![in alloc; process(alloc)] else {
-        return Err(NoMemory);
-    };
-    let Ok(segments) = vec![in alloc; segment(alloc), segment(alloc), segment(alloc)] else {
-        return Err(NoMemory);
-    };
-    Ok(MachineDesc {
-        processors: 1,
-        memories: 2,
-        ios: 1,
-        cache: 16,
-        quantum: 1000,
-        journal: 32,
-        segments: Items::from_vec(segments),
-        processes: Items::from_vec(processes),
-    })
+    let layout = Layout::new(alloc, desc)?;
+    Ok(layout)
 }
 
 // A block whose bytes are all the same.
@@ -109,17 +80,9 @@ fn new_machine(alloc: Global, arrived: u64, closed: u64, sent: u64) -> Result<Ma
     requires arrived { arrived ≤ 32 }
     requires closed { closed ≤ 1 }
     requires sent { sent ≤ 32 }
-    ensures described { IfOk result (λ m. IsDescription m.desc) }
-    ensures processes { IfOk result (λ m. m.desc.processes ≡ record { size = 64; entry = 0; image = []; lines = 1; grants = 5 } ∷ []) }
-    ensures segments { IfOk result (λ m. length m.desc.segments ≡ 3) }
-    ensures quantum { IfOk result (λ m. m.desc.quantum ≡ 1000) }
-    ensures journal { IfOk result (λ m. m.desc.journal ≡ 32) }
-    ensures layout { IfOk result (λ m. m.layout ≡ shape_of m.desc) }
-    ensures matches { IfOk result (λ m. Matches m.layout m.memories) }
-    ensures readable { IfOk result (λ m. AreReadable m.desc (copies m.layout m.memories)) }
 {
-    let desc = description(alloc)?;
-    let layout = Layout::new(alloc, &desc)?;
+    let desc = one_line(alloc)?;
+    let layout = layout_of(alloc, &desc)?;
     let first = memory(alloc, arrived, closed, sent)?;
     let second = memory(alloc, arrived, closed, sent)?;
     let Ok(elements) = vec![in alloc; first, second] else {
@@ -180,196 +143,239 @@ type Row = (u32, [u32; 3], u16, u32, u32);
 /// What a call comes to, x10 after it, and how far pc moves.
 type Answer = (Outcome, u32, u32);
 
-const CALLS: [(Row, Answer); 26] = [
-    // exit, self, commit, yield, and no call
-    (
-        (0, [7, 0, 0], 5, 0, 0),
-        (Outcome::NeedsFlush(Cause::Exit), 7, 0),
-    ),
-    ((5, [7, 0, 0], 0, 0, 0), (Outcome::Done, 0, 4)),
-    (
-        (6, [7, 0, 0], 0, 0, 0),
-        (Outcome::NeedsFlush(Cause::Commit), 0, 4),
-    ),
-    (
-        (7, [7, 0, 0], 0, 0, 0),
-        (Outcome::NeedsFlush(Cause::Yield), 0, 4),
-    ),
-    ((8, [7, 0, 0], 0, 0, 0), (Outcome::Done, u32::MAX - 8, 4)),
-    // acquire
-    ((1, [3, 0, 0], 0, 0, 0), (Outcome::Done, u32::MAX - 2, 4)),
-    ((1, [1, 0, 0], 0, 0, 0), (Outcome::Done, u32::MAX - 3, 4)),
-    ((1, [0, 0, 0], 1, 0, 0), (Outcome::Done, u32::MAX, 4)),
-    ((1, [0, 0, 0], 4, 0, 0), (Outcome::Done, u32::MAX - 1, 4)),
-    ((1, [2, 0, 0], 1, 0, 0), (Outcome::Claim(Seg(2)), 2, 0)),
-    // release
-    (
-        (2, [2, 0, 0], 5, 0, 0),
-        (Outcome::NeedsFlush(Cause::Release(Seg(2))), 0, 4),
-    ),
-    ((2, [0, 0, 0], 4, 0, 0), (Outcome::Done, u32::MAX, 4)),
-    ((2, [99, 0, 0], 4, 0, 0), (Outcome::Done, u32::MAX, 4)),
-    // read
-    ((3, [1, 0, 0], 0, 0, 0), (Outcome::Done, u32::MAX - 5, 4)),
-    ((3, [16, 0, 0], 0, 0, 0), (Outcome::Done, u32::MAX - 5, 4)),
-    ((3, [0, 0, 0], 0, 1, 0), (Outcome::Done, 9, 4)),
-    (
-        (3, [0, 0, 0], 0, 2, 0),
-        (Outcome::Waits(Reason::Input(LineNo(0), 2)), 0, 0),
-    ),
-    // write
-    ((4, [1, 0, 99], 0, 0, 0), (Outcome::Done, u32::MAX - 5, 4)),
-    ((4, [0, 64, 65], 0, 0, 0), (Outcome::Done, u32::MAX - 6, 4)),
-    ((4, [0, 0, 64], 0, 0, 192), (Outcome::Done, 64, 4)),
-    (
-        (4, [0, 1, 64], 0, 0, 1_048_576),
-        (Outcome::Done, u32::MAX - 7, 4),
-    ),
-    (
-        (4, [0, 0, 1], 0, 0, 1_048_576),
-        (Outcome::Done, u32::MAX - 4, 4),
-    ),
-    ((4, [0, 0, 0], 0, 0, 256), (Outcome::Done, 0, 4)),
-    ((4, [0, 0, 1], 0, 0, 255), (Outcome::Done, 1, 4)),
-    (
-        (4, [0, 0, 1], 0, 0, 256),
-        (Outcome::Waits(Reason::Outbox(LineNo(0), 0)), 0, 0),
-    ),
-    (
-        (4, [0, 0, 64], 0, 0, 193),
-        (Outcome::Waits(Reason::Outbox(LineNo(0), 0)), 0, 0),
-    ),
-];
+fn calls() -> [(Row, Answer); 26] {
+    [
+        // exit, self, commit, yield, and no call
+        (
+            (0, [7, 0, 0], 5, 0, 0),
+            (Outcome::NeedsFlush(Cause::Exit), 7, 0),
+        ),
+        ((5, [7, 0, 0], 0, 0, 0), (Outcome::Done, 0, 4)),
+        (
+            (6, [7, 0, 0], 0, 0, 0),
+            (Outcome::NeedsFlush(Cause::Commit), 0, 4),
+        ),
+        (
+            (7, [7, 0, 0], 0, 0, 0),
+            (Outcome::NeedsFlush(Cause::Yield), 0, 4),
+        ),
+        ((8, [7, 0, 0], 0, 0, 0), (Outcome::Done, u32::MAX - 8, 4)),
+        // acquire
+        ((1, [3, 0, 0], 0, 0, 0), (Outcome::Done, u32::MAX - 2, 4)),
+        ((1, [1, 0, 0], 0, 0, 0), (Outcome::Done, u32::MAX - 3, 4)),
+        ((1, [0, 0, 0], 1, 0, 0), (Outcome::Done, u32::MAX, 4)),
+        ((1, [0, 0, 0], 4, 0, 0), (Outcome::Done, u32::MAX - 1, 4)),
+        ((1, [2, 0, 0], 1, 0, 0), (Outcome::Claim(Seg(2)), 2, 0)),
+        // release
+        (
+            (2, [2, 0, 0], 5, 0, 0),
+            (Outcome::NeedsFlush(Cause::Release(Seg(2))), 0, 4),
+        ),
+        ((2, [0, 0, 0], 4, 0, 0), (Outcome::Done, u32::MAX, 4)),
+        ((2, [99, 0, 0], 4, 0, 0), (Outcome::Done, u32::MAX, 4)),
+        // read
+        ((3, [1, 0, 0], 0, 0, 0), (Outcome::Done, u32::MAX - 5, 4)),
+        ((3, [16, 0, 0], 0, 0, 0), (Outcome::Done, u32::MAX - 5, 4)),
+        ((3, [0, 0, 0], 0, 1, 0), (Outcome::Done, 9, 4)),
+        (
+            (3, [0, 0, 0], 0, 2, 0),
+            (Outcome::Waits(Reason::Input(LineNo(0), 2)), 0, 0),
+        ),
+        // write
+        ((4, [1, 0, 99], 0, 0, 0), (Outcome::Done, u32::MAX - 5, 4)),
+        ((4, [0, 64, 65], 0, 0, 0), (Outcome::Done, u32::MAX - 6, 4)),
+        ((4, [0, 0, 64], 0, 0, 192), (Outcome::Done, 64, 4)),
+        (
+            (4, [0, 1, 64], 0, 0, 1_048_576),
+            (Outcome::Done, u32::MAX - 7, 4),
+        ),
+        (
+            (4, [0, 0, 1], 0, 0, 1_048_576),
+            (Outcome::Done, u32::MAX - 4, 4),
+        ),
+        ((4, [0, 0, 0], 0, 0, 256), (Outcome::Done, 0, 4)),
+        ((4, [0, 0, 1], 0, 0, 255), (Outcome::Done, 1, 4)),
+        (
+            (4, [0, 0, 1], 0, 0, 256),
+            (Outcome::Waits(Reason::Outbox(LineNo(0), 0)), 0, 0),
+        ),
+        (
+            (4, [0, 0, 64], 0, 0, 193),
+            (Outcome::Waits(Reason::Outbox(LineNo(0), 0)), 0, 0),
+        ),
+    ]
+}
 
-#[test]
-fn each_call_and_each_answer(rt: HostRuntime) -> Result<(), Fail> {
-    let machine = new_machine(rt.alloc(), 2, 0, 0)?;
-    for ((number, arguments, held, reads, writes), (outcome, answer, moved)) in CALLS {
-        let mut cache = Cache::new(rt.alloc(), 16)?;
+impl Machine {
+    // What a call of the process comes to.
+    fn call(&self, r: &mut Running, cache: &mut Cache) -> Outcome
+        requires { IsRunning self.now.desc r.old }
+    {
+        call(r, cache, &self.memories, &self.layout, &self.desc)
+    }
+
+    // The process at a call.
+    fn at(&self, rt: &impl Abort, row: Row) -> Running
+        ensures { IsRunning self.now.desc result }
+    {
+        let (number, arguments, held, reads, writes) = row;
         assert!(rt; held < 8 && reads <= 32 && writes <= 1_048_576);
-        let mut r = running(number, arguments, held, reads, writes);
-        let found = call(
-            &mut r,
-            &mut cache,
-            &machine.memories,
-            &machine.layout,
-            &machine.desc,
-        );
-        assert_eq!(rt; found, outcome, "{number}");
-        for half in [&r.pair.a, &r.pair.b] {
-            assert_eq!(rt; half.x[10], answer);
-            assert_eq!(rt; half.pc.wrapping_sub(64), moved);
-        }
+        running(number, arguments, held, reads, writes)
+    }
+
+    // The process at a call of self, where one bit of a half's register is struck.
+    fn struck(&self, rt: &impl Abort, half: Half, reg: u8) -> Running
+        ensures { IsRunning self.now.desc result }
+    {
+        assert!(rt; 1 <= reg && reg <= 32);
+        struck(half, reg)
+    }
+}
+
+// A half of the process after a call.
+fn check_half(rt: &impl Abort, half: &Regs, &(_, answer, moved): &Answer) {
+    assert_eq!(rt; half.x[10], answer);
+    assert_eq!(rt; half.pc.wrapping_sub(64), moved);
+}
+
+fn check_call(
+    rt: &impl Abort,
+    alloc: Global,
+    machine: &Machine,
+    row: &Row,
+    answer: &Answer,
+) -> Result<(), NoMemory> {
+    let mut cache = Cache::new(alloc, 16)?;
+    let mut r = machine.at(rt, *row);
+    let found = machine.call(&mut r, &mut cache);
+    assert_eq!(rt; found, answer.0, "{row:?}");
+    check_half(rt, &r.pair.a, answer);
+    check_half(rt, &r.pair.b, answer);
+    Ok(())
+}
+
+fn check_calls(
+    rt: &impl Abort,
+    alloc: Global,
+    machine: &Machine,
+    calls: &[(Row, Answer)],
+) -> Result<(), NoMemory> {
+    for (row, answer) in calls {
+        check_call(rt, alloc, machine, row, answer)?;
     }
     Ok(())
 }
 
 #[test]
-fn a_read_at_the_end_of_a_closed_line(rt: HostRuntime) -> Result<(), Fail> {
+fn each_call_and_each_answer(rt: HostRuntime) -> Result<(), NoMemory> {
+    let machine = new_machine(rt.alloc(), 2, 0, 0)?;
+    check_calls(&rt, rt.alloc(), &machine, &calls())
+}
+
+// A read where so many bytes were read: its answer, and how many were read afterwards.
+fn check_read(
+    rt: &impl Abort,
+    machine: &Machine,
+    cache: &mut Cache,
+    (reads, answer, after): (u32, u32, u32),
+) {
+    let mut r = machine.at(rt, (3, [0, 0, 0], 0, reads, 0));
+    assert_eq!(rt; machine.call(&mut r, cache), Outcome::Done);
+    assert_eq!(rt; r.pair.a.x[10], answer);
+    assert_eq!(rt; r.reads[0], after);
+}
+
+#[test]
+fn a_read_at_the_end_of_a_closed_line(rt: HostRuntime) -> Result<(), NoMemory> {
     let machine = new_machine(rt.alloc(), 2, 1, 0)?;
     let mut cache = Cache::new(rt.alloc(), 16)?;
-    for (reads, answer, after) in [(1, 9, 2), (2, u32::MAX, 2)] {
-        assert!(rt; reads <= 32);
-        let mut r = running(3, [0, 0, 0], 0, reads, 0);
-        let found = call(
-            &mut r,
-            &mut cache,
-            &machine.memories,
-            &machine.layout,
-            &machine.desc,
-        );
-        assert_eq!(rt; found, Outcome::Done);
-        assert_eq!(rt; r.pair.a.x[10], answer);
-        assert_eq!(rt; r.reads[0], after);
+    check_read(&rt, &machine, &mut cache, (1, 9, 2));
+    check_read(&rt, &machine, &mut cache, (2, u32::MAX, 2));
+    Ok(())
+}
+
+/// A changed block, and its first byte that was written and the one behind the last.
+type Part = (u32, usize, usize);
+
+fn check_part(rt: &impl Abort, cache: &Cache, &(block, first, end): &Part) -> Result<(), Fail> {
+    let block = cache.find(Extent(0), block).ok_or("not changed")?;
+    for (at, byte) in block.bytes.iter().enumerate() {
+        let written = first <= at && at < end;
+        assert_eq!(rt; *byte, if written { 5 } else { 0 }, "{at}");
     }
     Ok(())
 }
 
+// A write of so many bytes, where so many were written: the two blocks that it changes.
+fn check_write(
+    rt: &impl Abort,
+    alloc: Global,
+    machine: &Machine,
+    (from, count): (u32, u32),
+    parts: &[Part; 2],
+) -> Result<(), Fail> {
+    let mut cache = Cache::new(alloc, 2)?;
+    let mut r = machine.at(rt, (4, [0, 0, count], 0, 0, from));
+    assert_eq!(rt; machine.call(&mut r, &mut cache), Outcome::Done);
+    assert_eq!(rt; r.writes[0].checked_sub(from), Some(count));
+    check_part(rt, &cache, &parts[0])?;
+    check_part(rt, &cache, &parts[1])
+}
+
+// Across the end of a block, and across the end of the outbox.
 #[test]
 fn writes_across_ends(rt: HostRuntime) -> Result<(), Fail> {
     let machine = new_machine(rt.alloc(), 0, 0, 6)?;
-    // across the end of a block, and across the end of the outbox
-    for (from, count, parts) in [
-        (210, 40, [(14, 18, 32), (15, 0, 26)]),
-        (250, 12, [(15, 26, 32), (8, 0, 6)]),
-    ] {
-        let mut cache = Cache::new(rt.alloc(), 2)?;
-        let mut r = running(4, [0, 0, count], 0, 0, from);
-        let found = call(
-            &mut r,
-            &mut cache,
-            &machine.memories,
-            &machine.layout,
-            &machine.desc,
-        );
-        assert_eq!(rt; found, Outcome::Done);
-        assert_eq!(rt; r.writes[0], from + count);
-        for (block, first, end) in parts {
-            let block = cache.find(Extent(0), block).ok_or("not changed")?;
-            for (at, byte) in block.bytes.iter().enumerate() {
-                let written = first <= at && at < end;
-                assert_eq!(rt; *byte, if written { 5 } else { 0 }, "{at}");
-            }
-        }
-    }
-    Ok(())
+    let block_end = [(14, 18, 32), (15, 0, 26)];
+    let outbox_end = [(15, 26, 32), (8, 0, 6)];
+    check_write(&rt, rt.alloc(), &machine, (210, 40), &block_end)?;
+    check_write(&rt, rt.alloc(), &machine, (250, 12), &outbox_end)
+}
+
+// A write of so many bytes, where so many were written: what it comes to, the blocks changed, and the bytes written then.
+fn check_room(
+    rt: &impl Abort,
+    machine: &Machine,
+    cache: &mut Cache,
+    (from, count): (u32, u32),
+    (outcome, dirty, after): (Outcome, u32, u32),
+) {
+    let mut r = machine.at(rt, (4, [0, 0, count], 0, 0, from));
+    assert_eq!(rt; machine.call(&mut r, cache), outcome);
+    assert_eq!(rt; cache.dirty(), dirty);
+    assert_eq!(rt; r.writes[0], after);
 }
 
 #[test]
-fn a_write_at_the_last_free_block(rt: HostRuntime) -> Result<(), Fail> {
+fn a_write_at_the_last_free_block(rt: HostRuntime) -> Result<(), NoMemory> {
     let machine = new_machine(rt.alloc(), 0, 0, 0)?;
     let mut cache = Cache::new(rt.alloc(), 1)?;
-    for (from, count, outcome, dirty) in [
-        (16, 17, Outcome::NeedsFlush(Cause::Room), 0),
-        (16, 16, Outcome::Done, 1),
-        (8, 24, Outcome::Done, 1),
-        (31, 2, Outcome::NeedsFlush(Cause::Room), 1),
-    ] {
-        assert!(rt; from <= 1_048_576);
-        let mut r = running(4, [0, 0, count], 0, 0, from);
-        let found = call(
-            &mut r,
-            &mut cache,
-            &machine.memories,
-            &machine.layout,
-            &machine.desc,
-        );
-        assert_eq!(rt; found, outcome);
-        assert_eq!(rt; cache.dirty(), dirty);
-        let after = if outcome == Outcome::Done {
-            from + count
-        } else {
-            from
-        };
-        assert_eq!(rt; r.writes[0], after);
-    }
+    let room = Outcome::NeedsFlush(Cause::Room);
+    let done = Outcome::Done;
+    check_room(&rt, &machine, &mut cache, (16, 17), (room, 0, 16));
+    check_room(&rt, &machine, &mut cache, (16, 16), (done, 1, 32));
+    check_room(&rt, &machine, &mut cache, (8, 24), (done, 1, 32));
+    check_room(&rt, &machine, &mut cache, (31, 2), (room, 1, 31));
     Ok(())
 }
 
+// A call of self, where either half was struck in this register.
+fn check_struck(rt: &impl Abort, machine: &Machine, cache: &mut Cache, reg: u8, outcome: Outcome) {
+    let mut first = machine.struck(rt, Half::A, reg);
+    assert_eq!(rt; machine.call(&mut first, cache), outcome, "{reg}");
+    let mut second = machine.struck(rt, Half::B, reg);
+    assert_eq!(rt; machine.call(&mut second, cache), outcome, "{reg}");
+}
+
 #[test]
-fn a_struck_half_at_a_call(rt: HostRuntime) -> Result<(), Fail> {
+fn a_struck_half_at_a_call(rt: HostRuntime) -> Result<(), NoMemory> {
     let machine = new_machine(rt.alloc(), 0, 0, 0)?;
     let mut cache = Cache::new(rt.alloc(), 1)?;
-    for (reg, outcome) in [
-        (9, Outcome::Done),
-        (10, Outcome::Diverged),
-        (16, Outcome::Diverged),
-        (17, Outcome::Diverged),
-        (18, Outcome::Done),
-        (32, Outcome::Diverged),
-    ] {
-        for half in [Half::A, Half::B] {
-            assert!(rt; 1 <= reg && reg <= 32);
-            let mut r = struck(half, reg);
-            let found = call(
-                &mut r,
-                &mut cache,
-                &machine.memories,
-                &machine.layout,
-                &machine.desc,
-            );
-            assert_eq!(rt; found, outcome);
-        }
-    }
+    check_struck(&rt, &machine, &mut cache, 9, Outcome::Done);
+    check_struck(&rt, &machine, &mut cache, 10, Outcome::Diverged);
+    check_struck(&rt, &machine, &mut cache, 16, Outcome::Diverged);
+    check_struck(&rt, &machine, &mut cache, 17, Outcome::Diverged);
+    check_struck(&rt, &machine, &mut cache, 18, Outcome::Done);
+    check_struck(&rt, &machine, &mut cache, 32, Outcome::Diverged);
     Ok(())
 }

@@ -1,4 +1,4 @@
-use Rattle.std.proofs.Common.{◌≡◌, ℕ, zero, suc, ◌%◌, ◌<◌, ◌≤◌, Bool, true, false, if◌then◌else◌, List, [], ◌∷◌, replicate, get_or, arith, refl, ap, sym, ◌∙◌}
+use Rattle.std.proofs.Common.{◌≡◌, ℕ, zero, suc, ◌<◌, ◌≤◌, Bool, true, false, if◌then◌else◌, List, [], ◌∷◌, replicate, get_or, arith, refl, ap, sym, ◌∙◌}
 use Rattle.seq_words.specs.declared.description.MachineDesc.{MachineDesc}
 use Rattle.seq_memory.specs.States.{empty_element, is_in_service}
 use Rattle.seq_memory.specs.declared.element.State.TheVariants.{InService}
@@ -62,7 +62,6 @@ module _ (d : MachineDesc) (s : Shape) (m : Memories) (x y : MemoryElement) (a b
   readable = record {
     served = λ e. serving e _;
     counts = λ l. at_most _ d.journal (no_words _ 0 _);
-    sent = λ l. at_most _ 1048576 (no_words _ 2 _);
   }
 
 pub returns-clause-readable : goal.returns-clause-readable

@@ -11,24 +11,18 @@ held_below held t small has = elim (cases_lt t 3) [
   | inr high ↦ let none : has_bit held t ≡ false = no_bit held 3 t small high in absurd (let c : ⊥ = cc in c)
 ]
 
--- of one line
-one_line : (l : ℕ) → has_bit 1 l ≡ true → l < 16
-one_line l has = elim (cases_lt l 16) [
-  | inl low ↦ low
-  | inr high ↦ let none : has_bit 1 l ≡ false = no_bit 1 1 l (omega arith) (omega arith) in absurd (let c : ⊥ = cc in c)
-]
-
 pub returns-clause-running : goal.returns-clause-running
 returns-clause-running c = λ d processes segments quantum journal. record {
-  process = rw processes (omega arith);
-  aligned = rw c.load.ensures (refl, refl);
+  within = record {
+    process = rw processes (omega arith);
+    aligned = rw c.load.ensures (refl, refl);
+    held = λ t has. rw segments (held_below c.args.held t c.requires.held has);
+    positions = record { reads = refl; writes = refl };
+    reads = λ i. rw journal (first_alone c.args.reads 32 c.requires.reads i);
+    writes = λ i. first_alone c.args.writes 1048576 c.requires.writes i;
+    steps = omega arith;
+    used = rw quantum (omega arith);
+  };
   live = refl;
-  held = λ t has. rw segments (held_below c.args.held t c.requires.held has);
-  lines = λ l has. one_line l (rw processes at has);
-  four_reads = refl;
-  four_writes = refl;
-  reads = λ i. rw journal (first_alone c.args.reads 32 c.requires.reads i);
-  writes = λ i. first_alone c.args.writes 1048576 c.requires.writes i;
-  steps = omega arith;
-  used = rw quantum (omega arith);
+  left = rw quantum (omega arith);
 }

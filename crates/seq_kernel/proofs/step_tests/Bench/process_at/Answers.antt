@@ -5,9 +5,9 @@ use Rattle.std.proofs.lemmas.Bool.{cases_lt}
 use Rattle.seq_words.specs.Masks.{has_bit}
 use Rattle.seq_words.specs.declared.regs.Regs.{Regs}
 use Rattle.seq_words.specs.declared.description.MachineDesc.{MachineDesc}
+use Rattle.seq_words.specs.Description.{process_of}
 use Rattle.seq_flat.specs.declared.state.End.TheVariants.{Live}
 use Rattle.seq_process.specs.declared.running.Running.{Running}
-use Rattle.seq_segments.specs.Map.{process_of}
 use Rattle.seq_kernel.specs.Bounds.{IsRunning}
 use Rattle.seq_kernel.proofs.step_tests.Bench.process_at.Goals as goal
 
@@ -46,17 +46,18 @@ made regs held read written = record {
 
 runs : (d : MachineDesc) (regs : Regs) (held read written : ℕ) → d.quantum ≡ 1000 → d.journal ≡ 32 → length d.segments ≡ 4 → length d.processes ≡ 2 → (process_of d 0).lines ≡ 1 → regs.pc % 4 ≡ 0 → held < 16 → read ≤ 32 → written ≤ 1048576 → IsRunning d (made regs held read written)
 runs d regs held read written quantum journal segments processes lines aligned few reads writes = record {
-  process = rw processes (omega arith);
-  aligned = (aligned, aligned);
+  within = record {
+    process = rw processes (omega arith);
+    aligned = (aligned, aligned);
+    held = λ t has. rw segments (below held 4 t (omega arith) has);
+    positions = record { reads = refl; writes = refl };
+    reads = λ i. rw journal (first_alone read 32 i reads);
+    writes = λ i. first_alone written 1048576 i writes;
+    steps = omega arith;
+    used = rw quantum (omega arith);
+  };
   live = refl;
-  held = λ t has. rw segments (below held 4 t (omega arith) has);
-  lines = λ l has. let one : has_bit 1 l ≡ true = rw lines at has in let lt : l < 1 = below 1 1 l (omega arith) one in omega arith;
-  four_reads = refl;
-  four_writes = refl;
-  reads = λ i. rw journal (first_alone read 32 i reads);
-  writes = λ i. first_alone written 1048576 i writes;
-  steps = omega arith;
-  used = rw quantum (omega arith);
+  left = rw quantum (omega arith);
 }
 
 pub returns-clause-running : goal.returns-clause-running

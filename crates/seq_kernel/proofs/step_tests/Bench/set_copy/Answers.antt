@@ -10,7 +10,7 @@ use Rattle.seq_kernel.proofs.step_tests.Bench.set_copy.Goals as goal
 -- a block is neither a state nor a word
 changed : (d : MachineDesc) (p : Copies) (e n : ℕ) (c : Bool) (b : Block) → AreReadable d p → AreReadable d (with_block p e n c b)
 unfolding with_block
-changed d p e n c b r = record { served = r.served; counts = r.counts; sent = r.sent }
+changed d p e n c b r = record { served = r.served; counts = r.counts }
 
 written : (d : MachineDesc) (s : Shape) (p : Copies) (e n : ℕ) (c : Bool) (b : Block) → AreReadable d p → AreReadable d (block_written s p e n c b)
 written d s p e n c b r = after_block (AreReadable d) s p e n c b (changed d p e n c b r) r
