@@ -1,0 +1,5 @@
+pub mod Images
+pub mod Areas
+pub mod Flushing
+pub mod Starting
+pub mod Begun

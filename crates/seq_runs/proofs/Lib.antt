@@ -1,0 +1,16 @@
+pub mod Touches
+pub mod Sames
+pub mod Calls
+pub mod Steps
+pub mod Local
+pub mod Ahead
+pub mod Owners
+pub mod Orders
+pub mod Growth
+pub mod AnyOrder
+pub mod BoundedBytes
+pub mod BoundedParts
+pub mod BoundedCalls
+pub mod BoundedSteps
+pub mod BoundedStarts
+pub mod HeldMasks
