@@ -1,0 +1,6 @@
+pub mod Owned
+pub mod Wired
+pub mod Cases
+pub mod Nothing
+pub mod Served
+pub mod OneLine

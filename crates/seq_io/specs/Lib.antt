@@ -1,0 +1,6 @@
+pub mod Changes
+pub mod Lines
+pub mod Bounds
+pub mod Duties
+pub mod Turns
+pub mod OneLine

@@ -1,0 +1,3 @@
+pub mod Lowest
+pub mod Blockers
+pub mod States

@@ -1,0 +1,3 @@
+pub mod Lowest
+pub mod Ruling
+pub mod Checks
