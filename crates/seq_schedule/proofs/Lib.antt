@@ -1,0 +1,10 @@
+pub mod Arities
+pub mod Capped
+pub mod Hex
+pub mod Ranges
+pub mod Tallies
+pub mod Texts
+pub mod Answers
+pub mod There
+pub mod Turns
+pub mod Gates

@@ -1,0 +1,16 @@
+ghost use Rattle.seq_schedule.specs.Laws.{ItemsAreThere, TurnsAreCounted, GateKeepsTexts};
+
+/// The law of the items: all that the items of a faultless schedule name is in the description.
+pub fn items_are_there()
+    ensures { ItemsAreThere }
+{}
+
+/// The law of the turns: those that are counted are the turns among a script's events.
+pub fn turns_are_counted()
+    ensures { TurnsAreCounted }
+{}
+
+/// The law of the gate: what is faultless behind it is faultless without it, and has the same items.
+pub fn gate_keeps_texts()
+    ensures { GateKeepsTexts }
+{}

@@ -1,0 +1,22 @@
+//! Schedules of a machine's events, as a text says them.
+#![tactic(auto)]
+
+mod forms;
+mod laws;
+mod limits;
+mod lines;
+mod numbers;
+mod reading;
+mod rules;
+mod script;
+mod tally;
+
+pub use forms::{Form, Gate, is_taken};
+pub use laws::{gate_keeps_texts, items_are_there, turns_are_counted};
+pub use limits::{MOST_LINES, MOST_TIMES, MOST_TURNS};
+pub use lines::{Said, read_line};
+pub use reading::{parse, read};
+pub use script::{Item, Script};
+
+#[cfg(test)]
+mod tests;
