@@ -1,17 +1,17 @@
 -- A draft that is built, with an image, describes a machine.
-use Rattle.std.proofs.Common.{◌≡◌, ℕ, zero, suc, ◌<◌, true, List, [], ◌∷◌, length, get_or, set, arith, refl, sym, ap, subst, lit≤}
+use Rattle.std.proofs.Common.{◌≡◌, ℕ, zero, suc, ◌<◌, ◌≤◌, true, List, [], ◌∷◌, length, get_or, set, arith, refl, sym, ap, subst, lit≤}
 use Rattle.std.specs.Prelude.{◌&&◌, ◌==◌, nat_le, nat_lt, count_ones, count_by, sum_by, if◌then◌else◌}
 use Rattle.std.proofs.lemmas.Bool.{and_parts, eqb-true}
 use Rattle.seq_words.specs.Masks.{has_bit}
 use Rattle.seq_words.specs.declared.description.MachineDesc.{MachineDesc}
 use Rattle.seq_words.specs.declared.description.SegmentDesc.{SegmentDesc}
 use Rattle.seq_words.specs.declared.description.ProcessDesc.{ProcessDesc}
-use Rattle.seq_words.specs.Description.{IsDescription, IsProcess, IsSegment}
+use Rattle.seq_words.specs.Description.{IsDescription, IsProcess, IsSegment, no_process}
 use Rattle.seq_loader.specs.declared.image.Image.{Image}
 use Rattle.seq_loader.specs.Image.{IsImage}
 use Rattle.seq_manifest.specs.declared.draft.Draft.{Draft}
 use Rattle.seq_manifest.specs.Drafts.{IsDraft, IsProcessDraft, IsSegmentDraft}
-use Rattle.seq_cli.specs.Opening.{is_built, no_process, with_image}
+use Rattle.seq_cli.specs.Opening.{is_built, with_image}
 
 -- a description that is built has one process
 pub one_process : (d : MachineDesc) → is_built d ≡ true → length d.processes ≡ 1
@@ -45,6 +45,7 @@ described_one d p i is h image = subst Claim (sym is) (record {
   each_segment = λ k e lt. empty_first _ (h.each_segment k e lt);
   processes = record { low_at = lit≤ tt; high_at = lit≤ tt };
   each_process = process;
+  few_lines = few;
   lines = λ l. owners l;
 })
   where
@@ -57,6 +58,9 @@ described_one d p i is h image = subst Claim (sym is) (record {
     process : (k : ℕ) (e : ProcessDesc) → k < 1 → IsProcess (length d.desc.segments) (get_or (with_process_image p i ∷ []) k e)
     process zero e lt = record { size = image.size; image = image.fits; aligned = image.aligned; inside = image.inside; few = draft_of.few; granted = draft_of.granted }
     process (suc k) e lt = absurd (let c : ⊥ = omega arith in c)
+
+    few : sum_by (λ (q : ProcessDesc). count_ones q.lines) (with_process_image p i ∷ []) ≤ 16
+    few = subst (λ (ps : List ProcessDesc). sum_by (λ (q : ProcessDesc). count_ones q.lines) ps ≤ 16) is h.few_lines
 
     owners : (l : ℕ) → count_by (λ (q : ProcessDesc). has_bit q.lines l) (with_process_image p i ∷ []) ≡ (if nat_lt l (sum_by (λ (q : ProcessDesc). count_ones q.lines) (with_process_image p i ∷ [])) then 1 else 0)
     owners l = subst (λ (ps : List ProcessDesc). count_by (λ (q : ProcessDesc). has_bit q.lines l) ps ≡ (if nat_lt l (sum_by (λ (q : ProcessDesc). count_ones q.lines) ps) then 1 else 0)) is (h.lines l)

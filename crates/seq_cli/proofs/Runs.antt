@@ -4,17 +4,17 @@ use Rattle.std.proofs.lemmas.List.{take_more}
 use Rattle.std.proofs.lemmas.Option.{slice_get-get_or}
 use Rattle.seq_words.specs.declared.description.MachineDesc.{MachineDesc}
 use Rattle.seq_words.specs.declared.events.Entry.{Entry}
-use Rattle.seq_words.specs.declared.events.Event.{Event}
+use Rattle.seq_cli.specs.declared.turns.Event.{Event}
 use Rattle.seq_shelf.specs.Causes.{Rose}
 use Rattle.seq_shelf.specs.Told.{Grows, LineView}
 use Rattle.seq_flat.specs.declared.state.FlatState.{FlatState}
 use Rattle.seq_flat.specs.State.{start}
 use Rattle.seq_cli.specs.declared.status.Status.{Status}
 use Rattle.seq_cli.specs.declared.status.Status.TheVariants.{Done, Usage, Refused, Absent, ShelfFault, ChronicleFault, LineFault, NoMemory}
-use Rattle.seq_cli.specs.Lines.{AllAccept, line_at, on_line}
+use Rattle.seq_shelf.specs.Rows.{AllAccept, line_at, on_line}
 use Rattle.seq_cli.specs.Plain.{Plain, turned, machine_from, machine, turn_state, turn_pairs, turn_bytes}
 use Rattle.seq_cli.specs.Ran.{StopsAt, Stopped, MadeUnder, Ran, machine_at}
-use Rattle.seq_cli.proofs.Rows.{grows_none, grows_more, all_stay, all_more}
+use Rattle.seq_shelf.proofs.Rows.{grows_none, grows_more, all_stay, all_more}
 use Rattle.seq_cli.proofs.Going.{Going}
 
 -- one event more

@@ -2,7 +2,7 @@
 use Rattle.std.proofs.Common.{◌≡◌, ℕ, ◌<◌, List, [], ◌∷◌, length, get_or, arith, ap, sym, ◌∙◌}
 use Rattle.std.proofs.lemmas.Bool.Decides.{nat_tests}
 use Rattle.seq_words.specs.declared.names.Ioe.{Ioe}
-use Rattle.seq_words.specs.declared.events.Event.TheVariants.{Io}
+use Rattle.seq_cli.specs.declared.turns.Event.TheVariants.{Io}
 use Rattle.seq_flat.specs.declared.state.FlatState.{FlatState}
 use Rattle.seq_flat.specs.Run.{output}
 use Rattle.seq_cli.specs.Plain.{turn_bytes}

@@ -3,8 +3,8 @@ use Rattle.std.proofs.Common.{◌≡◌, ℕ, ◌<◌, ◌≤◌, Bool, true, fa
 use Rattle.std.proofs.lemmas.List.{take_more, take-append-le, length-take, length_push}
 use Rattle.std.proofs.lemmas.Bool.{ltb-true}
 use Rattle.seq_words.specs.declared.description.MachineDesc.{MachineDesc}
-use Rattle.seq_words.specs.declared.events.Event.{Event}
-use Rattle.seq_words.specs.declared.events.Event.TheVariants.{Processor, Io}
+use Rattle.seq_cli.specs.declared.turns.Event.{Event}
+use Rattle.seq_cli.specs.declared.turns.Event.TheVariants.{Processor, Io}
 use Rattle.seq_flat.specs.declared.state.FlatState.{FlatState}
 use Rattle.seq_flat.specs.declared.state.Waits.{Waits}
 use Rattle.seq_flat.specs.State.{start, rights_of}

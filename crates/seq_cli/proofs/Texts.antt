@@ -1,6 +1,6 @@
 -- Lemmas on the schedules that are read.
 use Rattle.std.proofs.Common.{◌≡◌, ℕ, zero, suc, ◌+◌, ◌-◌, ◌<◌, ◌≤◌, Some, None, List, refl, ap, sym, ◌∙◌, subst, arith, take, drop, length, ◌*◌, ◌/◌, ◌%◌, eqb, eq-eqb, true}
-use Rattle.seq_words.specs.declared.events.Event.{Event}
+use Rattle.seq_cli.specs.declared.turns.Event.{Event}
 use Rattle.seq_cli.specs.Schedule.{event_of, events_of, schedule_of}
 
 -- behind a line that isn't one there is no schedule

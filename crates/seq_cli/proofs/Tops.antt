@@ -1,20 +1,21 @@
 -- What a call of the program does, from what its parts do.
-use Rattle.std.proofs.Common.{◌⊎◌, ◌≡◌, inl, inr, ℕ, Option, Some, List, [], refl, sym, subst, eq-eqb}
+use Rattle.std.proofs.Common.{◌⊎◌, ◌≡◌, inl, inr, ℕ, Option, Some, None, List, [], refl, sym, subst, eq-eqb}
 use Rattle.std.proofs.lemmas.Bool.{cases_eq, ne_eqb}
 use Rattle.seq_words.specs.Description.{IsDescription}
 use Rattle.seq_words.specs.declared.description.MachineDesc.{MachineDesc}
 use Rattle.seq_words.specs.declared.events.Entry.{Entry}
-use Rattle.seq_words.specs.declared.events.Event.{Event}
+use Rattle.seq_cli.specs.declared.turns.Event.{Event}
 use Rattle.seq_words.specs.declared.names.LineNo.{LineNo}
 use Rattle.seq_shelf.specs.Told.{LineView, Map}
 use Rattle.seq_flat.specs.Run.{IsPrefix, output}
 use Rattle.seq_cli.specs.declared.status.Status.{Status}
 use Rattle.seq_cli.specs.declared.status.Status.TheVariants.{Done, Usage, Refused, Absent, ShelfFault, ChronicleFault, LineFault, NoMemory}
-use Rattle.seq_cli.specs.Lines.{on_line}
-use Rattle.seq_cli.specs.Opening.{ready, Opens}
+use Rattle.seq_shelf.specs.Rows.{on_line}
+use Rattle.seq_cli.specs.Opening.{Opening, ready, Opens, AsksRun}
+use Rattle.seq_cli.specs.Endings.{Answers}
 use Rattle.seq_cli.specs.Ran.{Ran, MadeUnder, machine_at}
 use Rattle.seq_cli.specs.Top.{Releases}
-use Rattle.seq_cli.proofs.Rows.{grows_none, all_stay}
+use Rattle.seq_shelf.proofs.Rows.{grows_none, all_stay}
 use Rattle.seq_cli.proofs.Sound.{sound_at}
 
 -- nothing was done
@@ -35,7 +36,7 @@ prefix_on l xs ys p = elim (cases_eq l 0) [
 
 -- a run was made
 pub releases_run : (words : List (List ℕ)) (map : Option Map) (status : Status) (desc : MachineDesc) (events : List Event) (before after : Option (List Entry)) (old new : List LineView)
-    → ((m : Map) → map ≡ Some m → Opens words m (ready desc events)) → IsDescription desc → Ran desc events status before after old new → Releases words map before after old new
+    → ((m : Map) → map ≡ Some m → Opens words m None (ready desc events)) → IsDescription desc → Ran desc events status before after old new → Releases words map before after old new
 releases_run words map status desc events before after old new asked described ran =
     let m = machine_at desc events ran.made in
     let s = sound_at desc events ran.made in
@@ -72,3 +73,17 @@ ran_completes status d events before after old new ran c l = stop_completes stat
 -- the same run, of a description and events that are the same
 pub ran_at : (status : Status) (k d : MachineDesc) (given events : List Event) (before after : Option (List Entry)) (old new : List LineView) → k ≡ d → given ≡ events → Ran k given status before after old new → Ran d events status before after old new
 ran_at status k d given events before after old new same are ran = subst (λ (x : MachineDesc). Ran x events status before after old new) same (subst (λ es. Ran k es status before after old new) are ran)
+
+-- a run's status is asked for where the run is
+stop_answers : (Asked : Opening → Type 0) (status : Status) (d : MachineDesc) (events : List Event) (made : ℕ) (old new : List LineView) → MadeUnder status d events made old new → AsksRun Asked → Answers Asked status
+stop_answers Asked Done d events made old new u asks = asks
+stop_answers Asked NoMemory d events made old new u asks = tt
+stop_answers Asked ChronicleFault d events made old new u asks = asks
+stop_answers Asked (LineFault line) d events made old new u asks = asks
+stop_answers Asked Usage d events made old new u asks = absurd u.stops
+stop_answers Asked (Absent file) d events made old new u asks = absurd u.stops
+stop_answers Asked (Refused file place rule) d events made old new u asks = absurd u.stops
+stop_answers Asked ShelfFault d events made old new u asks = absurd u.stops
+
+pub ran_answers : (Asked : Opening → Type 0) (status : Status) (d : MachineDesc) (events : List Event) (before after : Option (List Entry)) (old new : List LineView) → Ran d events status before after old new → AsksRun Asked → Answers Asked status
+ran_answers Asked status d events before after old new ran asks = stop_answers Asked status d events ran.made old new ran.under asks

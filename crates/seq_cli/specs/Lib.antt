@@ -1,7 +1,7 @@
-pub mod Lines
 pub mod Numbers
 pub mod Schedule
 pub mod Opening
+pub mod Endings
 pub mod Loads
 pub mod Plain
 pub mod Ran

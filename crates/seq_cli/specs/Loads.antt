@@ -1,10 +1,11 @@
 -- What the loading of a file gives.
-use Rattle.std.specs.Prelude.{◌≡◌, ◌<◌, ℕ, Option, Some, None, List, length}
+use Rattle.std.specs.Prelude.{◌≡◌, ℕ, Option, Some, None, List}
 use Rattle.seq_words.specs.declared.events.ReadError.{ReadError}
 use Rattle.seq_words.specs.declared.events.ReadError.TheVariants as read
 use Rattle.seq_cli.specs.declared.status.Status.{Status}
-use Rattle.seq_cli.specs.declared.status.Status.TheVariants.{Done, Usage, Refused, Absent, ShelfFault, ChronicleFault, LineFault, NoMemory}
-use Rattle.seq_cli.specs.Opening.{Opening, absent, refused, file_fault, file_limit}
+use Rattle.seq_cli.specs.declared.status.Status.TheVariants.{Refused, ShelfFault, NoMemory}
+use Rattle.seq_cli.specs.Opening.{Opening, file_fault, OpensFile}
+use Rattle.seq_cli.specs.Endings.{Stops}
 
 -- a file's content has a text that violates no rule, and this value
 pub record Loads {A : Type 0} (fault : List ℕ → Option (ℕ × ℕ)) (Spelled : List ℕ → A → Type 0) (content : Option (List ℕ)) (value : A) : Type 0 where
@@ -13,49 +14,28 @@ pub record Loads {A : Type 0} (fault : List ℕ → Option (ℕ × ℕ)) (Spelle
   pub no_fault : file_fault fault text ≡ None
   pub spelled : Spelled text value
 
--- a file's content ends the loading with this status
+-- the file whose load failed, where a status of the loading of this file says so
+abbrev pub failed_of : Status → ℕ → Option ℕ
+failed_of ShelfFault file = Some file
+failed_of status file = None
+
+-- no text is read to a value
+abbrev pub NoValue : List ℕ → Unit {0} → Type 0
+NoValue text value = ⊥
+
+abbrev pub NoNext : Unit {0} → Opening → Type 0
+NoNext value o = ⊥
+
+-- a file with this content ends the loading with this status
 abbrev pub LoadStops : Status → ℕ → (List ℕ → Option (ℕ × ℕ)) → Option (List ℕ) → Type 0
-LoadStops (Absent at) file fault content = (at ≡ file) × (content ≡ None)
-LoadStops (Refused at place rule) file fault content = (at ≡ file) × ((text : List ℕ) × (content ≡ Some text) × (file_fault fault text ≡ Some (place, rule)))
-LoadStops ShelfFault file fault content = Unit {0}
-LoadStops NoMemory file fault content = Unit {0}
-LoadStops Usage file fault content = ⊥
-LoadStops Done file fault content = ⊥
-LoadStops ChronicleFault file fault content = ⊥
-LoadStops (LineFault line) file fault content = ⊥
+LoadStops status file fault content = Stops (OpensFile (failed_of status file) file fault NoValue NoNext content) status
 
 -- the same before its text is read
+abbrev pub no_fault : List ℕ → Option (ℕ × ℕ)
+no_fault text = None
+
 abbrev pub TextStops : Status → ℕ → Option (List ℕ) → Type 0
-TextStops (Absent at) file content = (at ≡ file) × (content ≡ None)
-TextStops (Refused at place rule) file content = (at ≡ file) × (place ≡ file_limit) × (rule ≡ 1) × ((text : List ℕ) × (content ≡ Some text) × (file_limit < length text))
-TextStops ShelfFault file content = Unit {0}
-TextStops NoMemory file content = Unit {0}
-TextStops Usage file content = ⊥
-TextStops Done file content = ⊥
-TextStops ChronicleFault file content = ⊥
-TextStops (LineFault line) file content = ⊥
-
--- a status with which the loading ends
-abbrev pub IsLoadStop : Status → Type 0
-IsLoadStop (Refused file place rule) = Unit {0}
-IsLoadStop (Absent file) = Unit {0}
-IsLoadStop ShelfFault = Unit {0}
-IsLoadStop NoMemory = Unit {0}
-IsLoadStop Usage = ⊥
-IsLoadStop Done = ⊥
-IsLoadStop ChronicleFault = ⊥
-IsLoadStop (LineFault line) = ⊥
-
--- a status with which the loading ends, where it is asked for
-abbrev pub Stops : (Opening → Type 0) → Status → Type 0
-Stops Asked (Absent file) = Asked (absent file)
-Stops Asked (Refused file place rule) = Asked (refused file place rule)
-Stops Asked ShelfFault = Unit {0}
-Stops Asked NoMemory = Unit {0}
-Stops Asked Usage = ⊥
-Stops Asked Done = ⊥
-Stops Asked ChronicleFault = ⊥
-Stops Asked (LineFault line) = ⊥
+TextStops status file content = LoadStops status file no_fault content
 
 -- the status of a text that a reader gives no value
 abbrev pub status_of : ℕ → ReadError → Status

@@ -1,9 +1,9 @@
 -- What the words and the files ask for: an answer before any run, or a run.
 use Rattle.std.specs.Prelude.{◌≡◌, ℕ, Bool, true, false, not, ◌&&◌, ◌==◌, if◌then◌else◌, nat_lt, nat_le, count_ones, Option, Some, None, List, [], ◌∷◌, length, codes, slice_set, slice_index_or}
 use Rattle.std.specs.Str.{bytes_eq}
+use Rattle.seq_words.specs.Description.{process_of}
 use Rattle.seq_words.specs.declared.description.MachineDesc.{MachineDesc}
-use Rattle.seq_words.specs.declared.description.ProcessDesc.{ProcessDesc}
-use Rattle.seq_words.specs.declared.events.Event.{Event}
+use Rattle.seq_cli.specs.declared.turns.Event.{Event}
 use Rattle.seq_shelf.specs.Told.{Map}
 use Rattle.seq_loader.specs.declared.image.Image.{Image}
 use Rattle.seq_loader.specs.Image.{Spells}
@@ -11,8 +11,6 @@ use Rattle.seq_loader.specs.Faults.{first_fault}
 use Rattle.seq_manifest.specs.declared.draft.Draft.{Draft}
 use Rattle.seq_manifest.specs.Drafts.{Describes}
 use Rattle.seq_manifest.specs.Faults.{first_fault as description_fault}
-use Rattle.seq_cli.specs.declared.status.Status.{Status}
-use Rattle.seq_cli.specs.declared.status.Status.TheVariants.{Done, Usage, Refused, Absent, ShelfFault, ChronicleFault, LineFault, NoMemory}
 use Rattle.seq_cli.specs.Schedule.{schedule_of}
 
 pub data Opening : Type 0 where
@@ -22,6 +20,8 @@ pub data Opening : Type 0 where
   absent : ℕ → Opening
   -- a file's first violated rule: the file's number, the place, the rule
   refused : ℕ → ℕ → ℕ → Opening
+  -- the load of a file fails
+  faulty : Opening
   -- a run of these events on this machine
   ready : MachineDesc → List Event → Opening
 
@@ -49,16 +49,25 @@ abbrev pub OpensText : {A : Type 0} → ℕ → Option (ℕ × ℕ) → (A → T
 OpensText file (Some fault) Spelled next o = o ≡ refused file fault.0 fault.1
 OpensText {A} file None Spelled next o = (value : A) × Spelled value × next value o
 
-abbrev pub OpensFile : {A : Type 0} → ℕ → (List ℕ → Option (ℕ × ℕ)) → (List ℕ → A → Type 0) → (A → Opening → Type 0) → Option (List ℕ) → Opening → Type 0
-OpensFile file fault Spelled next None o = o ≡ absent file
-OpensFile file fault Spelled next (Some text) o = OpensText file (file_fault fault text) (Spelled text) next o
+abbrev pub OpensContent : {A : Type 0} → ℕ → (List ℕ → Option (ℕ × ℕ)) → (List ℕ → A → Type 0) → (A → Opening → Type 0) → Option (List ℕ) → Opening → Type 0
+OpensContent file fault Spelled next None o = o ≡ absent file
+OpensContent file fault Spelled next (Some text) o = OpensText file (file_fault fault text) (Spelled text) next o
+
+-- whether the load of the file with this number fails, where at most one does
+abbrev pub fails : Option ℕ → ℕ → Bool
+fails None file = false
+fails (Some failed) file = failed == file
+
+abbrev pub OpensLoad : {A : Type 0} → Bool → ℕ → (List ℕ → Option (ℕ × ℕ)) → (List ℕ → A → Type 0) → (A → Opening → Type 0) → Option (List ℕ) → Opening → Type 0
+OpensLoad true file fault Spelled next content o = o ≡ faulty
+OpensLoad false file fault Spelled next content o = OpensContent file fault Spelled next content o
+
+abbrev pub OpensFile : {A : Type 0} → Option ℕ → ℕ → (List ℕ → Option (ℕ × ℕ)) → (List ℕ → A → Type 0) → (A → Opening → Type 0) → Option (List ℕ) → Opening → Type 0
+OpensFile failed file fault Spelled next content o = OpensLoad (fails failed file) file fault Spelled next content o
 
 -- process p of the description runs this image
-abbrev pub no_process : ProcessDesc
-no_process = record { size = 0; entry = 0; image = []; lines = 0; grants = 0 }
-
 abbrev pub with_image : MachineDesc → ℕ → Image → MachineDesc
-with_image d p i = record d { processes = slice_set d.processes p (record (slice_index_or d.processes p no_process) { size = i.size; entry = i.entry; image = i.bytes }) }
+with_image d p i = record d { processes = slice_set d.processes p (record (process_of d p) { size = i.size; entry = i.entry; image = i.bytes }) }
 
 -- the schedule's grammar
 abbrev pub fault_unless : Option (List Event) → Option (ℕ × ℕ)
@@ -75,44 +84,33 @@ Schedules text events = schedule_of text ≡ Some events
 abbrev pub OpensSchedule : MachineDesc → List Event → Opening → Type 0
 OpensSchedule d events o = o ≡ ready d events
 
-abbrev pub OpensImage : Map → List ℕ → Draft → Image → Opening → Type 0
-OpensImage map schedule draft i o = OpensFile 2 schedule_fault Schedules (OpensSchedule (with_image draft.desc 0 i)) (map schedule) o
+abbrev pub OpensImage : Map → Option ℕ → List ℕ → Draft → Image → Opening → Type 0
+OpensImage map failed schedule draft i o = OpensFile failed 2 schedule_fault Schedules (OpensSchedule (with_image draft.desc 0 i)) (map schedule) o
 
 -- what the plain machine runs: one processor, one I/O element, no segment, and one process, which owns at most one line
 abbrev pub is_built : MachineDesc → Bool
 is_built d =
     (d.processors == 1) && (d.ios == 1) && (length d.segments == 0) && (length d.processes == 1)
-    && nat_le (count_ones (slice_index_or d.processes 0 no_process).lines) 1
+    && nat_le (count_ones (process_of d 0).lines) 1
 
 -- every other description is refused at its beginning
-abbrev pub OpensBuilt : Bool → Map → List ℕ → Draft → Opening → Type 0
-OpensBuilt true map schedule draft o = OpensFile 1 first_fault Spells (OpensImage map schedule draft) (map (slice_index_or draft.images 0 [])) o
-OpensBuilt false map schedule draft o = o ≡ refused 0 0 0
+abbrev pub OpensBuilt : Bool → Map → Option ℕ → List ℕ → Draft → Opening → Type 0
+OpensBuilt true map failed schedule draft o = OpensFile failed 1 first_fault Spells (OpensImage map failed schedule draft) (map (slice_index_or draft.images 0 [])) o
+OpensBuilt false map failed schedule draft o = o ≡ refused 0 0 0
 
-abbrev pub OpensMachine : Map → List ℕ → Draft → Opening → Type 0
-OpensMachine map schedule draft o = OpensBuilt (is_built draft.desc) map schedule draft o
+abbrev pub OpensMachine : Map → Option ℕ → List ℕ → Draft → Opening → Type 0
+OpensMachine map failed schedule draft o = OpensBuilt (is_built draft.desc) map failed schedule draft o
 
-abbrev pub OpensForm : Map → Option (List ℕ × List ℕ) → Opening → Type 0
-OpensForm map None o = o ≡ usage
-OpensForm map (Some form) o = OpensFile 0 description_fault Describes (OpensMachine map form.1) (map form.0) o
+abbrev pub OpensForm : Map → Option ℕ → Option (List ℕ × List ℕ) → Opening → Type 0
+OpensForm map failed None o = o ≡ usage
+OpensForm map failed (Some form) o = OpensFile failed 0 description_fault Describes (OpensMachine map failed form.1) (map form.0) o
 
--- With these words, and these files on the shelf, this is asked for.
-abbrev pub Opens : List (List ℕ) → Map → Opening → Type 0
-Opens words map o = OpensForm map (form_of words) o
+-- With these words, these files on the shelf, and the load of this file failing, where one does, this is asked for.
+abbrev pub Opens : List (List ℕ) → Map → Option ℕ → Opening → Type 0
+Opens words map failed o = OpensForm map failed (form_of words) o
 
 -- A run of events on a machine is asked for.
 pub record AsksRun (Asked : Opening → Type 0) : Type 0 where
   pub desc : MachineDesc
   pub events : List Event
   pub asked : Asked (ready desc events)
-
--- A status is given only where it is asked for: of want of memory and a fault of the shelf nothing is said here.
-abbrev pub Answers : (Opening → Type 0) → Status → Type 0
-Answers Asked Usage = Asked usage
-Answers Asked (Absent file) = Asked (absent file)
-Answers Asked (Refused file place rule) = Asked (refused file place rule)
-Answers Asked Done = AsksRun Asked
-Answers Asked ChronicleFault = AsksRun Asked
-Answers Asked (LineFault line) = AsksRun Asked
-Answers Asked ShelfFault = Unit {0}
-Answers Asked NoMemory = Unit {0}

@@ -2,8 +2,8 @@
 use Rattle.std.specs.Prelude.{ℕ, Option, Some, None, List, [], ◌∷◌, ◌++◌, length, slice_index, if◌then◌else◌, nat_lt}
 use Rattle.seq_words.specs.declared.description.MachineDesc.{MachineDesc}
 use Rattle.seq_words.specs.declared.events.Entry.{Entry}
-use Rattle.seq_words.specs.declared.events.Event.{Event}
-use Rattle.seq_words.specs.declared.events.Event.TheVariants.{Processor, Io}
+use Rattle.seq_cli.specs.declared.turns.Event.{Event}
+use Rattle.seq_cli.specs.declared.turns.Event.TheVariants.{Processor, Io}
 use Rattle.seq_flat.specs.declared.state.FlatState.{FlatState}
 use Rattle.seq_flat.specs.State.{start}
 use Rattle.seq_flat.specs.Step.{step}

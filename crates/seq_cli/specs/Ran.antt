@@ -2,16 +2,16 @@
 use Rattle.std.specs.Prelude.{◌≡◌, ℕ, ◌<◌, ◌⊎◌, Option, Some, List, [], length, take, slice_get, IsSome}
 use Rattle.seq_words.specs.declared.description.MachineDesc.{MachineDesc}
 use Rattle.seq_words.specs.declared.events.Entry.{Entry}
-use Rattle.seq_words.specs.declared.events.Event.{Event}
-use Rattle.seq_words.specs.declared.events.Event.TheVariants.{Processor, Io}
+use Rattle.seq_cli.specs.declared.turns.Event.{Event}
+use Rattle.seq_cli.specs.declared.turns.Event.TheVariants.{Processor, Io}
 use Rattle.seq_shelf.specs.Causes.{Rose}
 use Rattle.seq_shelf.specs.Told.{Grows, LineView}
 use Rattle.seq_flat.specs.declared.state.FlatState.{FlatState}
 use Rattle.seq_flat.specs.Step.{step}
 use Rattle.seq_flat.specs.Run.{output}
 use Rattle.seq_cli.specs.declared.status.Status.{Status}
-use Rattle.seq_cli.specs.declared.status.Status.TheVariants.{Done, Usage, Refused, Absent, ShelfFault, ChronicleFault, LineFault, NoMemory}
-use Rattle.seq_cli.specs.Lines.{AllAccept, line_at, on_line}
+use Rattle.seq_cli.specs.declared.status.Status.TheVariants.{Done, ChronicleFault, LineFault, NoMemory}
+use Rattle.seq_shelf.specs.Rows.{AllAccept, line_at, on_line}
 use Rattle.seq_cli.specs.Plain.{Plain, machine}
 
 -- the event would append a pair
@@ -29,11 +29,7 @@ abbrev pub StopsAt : Status → MachineDesc → FlatState → ℕ → List LineV
 StopsAt ChronicleFault d f count old new e = Appends d f e
 StopsAt (LineFault line) d f count old new e = (line.0 ≡ 0) × Sends f count e
 StopsAt NoMemory d f count old new e = Appends d f e ⊎ (Sends f count e × Rose (line_at old 0).refusals (line_at new 0).refusals)
-StopsAt Done d f count old new e = ⊥
-StopsAt Usage d f count old new e = ⊥
-StopsAt (Refused file place rule) d f count old new e = ⊥
-StopsAt (Absent file) d f count old new e = ⊥
-StopsAt ShelfFault d f count old new e = ⊥
+StopsAt status d f count old new e = ⊥
 
 -- the machine after the first events of a list
 abbrev pub machine_at : MachineDesc → List Event → ℕ → Plain

@@ -1,8 +1,8 @@
 -- Schedules: lines `turn p0` and `turn i0`, each ended by a byte 0a.
 use Rattle.std.specs.Prelude.{ℕ, zero, suc, ◌*◌, ◌/◌, ◌%◌, ◌==◌, if◌then◌else◌, Option, Some, None, List, [], ◌∷◌, ◌++◌, length, take, drop, codes}
 use Rattle.std.specs.Str.{bytes_eq}
-use Rattle.seq_words.specs.declared.events.Event.{Event}
-use Rattle.seq_words.specs.declared.events.Event.TheVariants.{Processor, Io}
+use Rattle.seq_cli.specs.declared.turns.Event.{Event}
+use Rattle.seq_cli.specs.declared.turns.Event.TheVariants.{Processor, Io}
 
 -- the event of a line
 abbrev pub event_of : List ℕ → Option Event

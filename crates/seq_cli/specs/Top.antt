@@ -1,15 +1,15 @@
 -- What a call of the program does, under every status.
-use Rattle.std.specs.Prelude.{◌≡◌, ◌⊎◌, ℕ, Option, Some, List, []}
+use Rattle.std.specs.Prelude.{◌≡◌, ◌⊎◌, ℕ, Option, Some, None, List, []}
 use Rattle.seq_words.specs.Description.{IsDescription}
 use Rattle.seq_words.specs.declared.description.MachineDesc.{MachineDesc}
 use Rattle.seq_words.specs.declared.events.Entry.{Entry}
-use Rattle.seq_words.specs.declared.events.Event.{Event}
+use Rattle.seq_cli.specs.declared.turns.Event.{Event}
 use Rattle.seq_shelf.specs.Told.{Grows, LineView, Map}
 use Rattle.seq_flat.specs.Run.{IsRight}
 use Rattle.seq_cli.specs.declared.status.Status.{Status}
-use Rattle.seq_cli.specs.declared.status.Status.TheVariants.{Done, Usage, Refused, Absent, ShelfFault, ChronicleFault, LineFault, NoMemory}
-use Rattle.seq_cli.specs.Lines.{AllAccept}
+use Rattle.seq_shelf.specs.Rows.{AllAccept}
 use Rattle.seq_cli.specs.Opening.{ready, Opens}
+use Rattle.seq_cli.specs.Endings.{Answers, IsEarly}
 use Rattle.seq_cli.specs.Ran.{Ran}
 
 -- no history, and nothing released
@@ -22,7 +22,7 @@ pub record IsNothing (history : List Entry) (released : ℕ → List ℕ) : Type
 pub record IsRightFor (words : List (List ℕ)) (map : Option Map) (history : List Entry) (released : ℕ → List ℕ) : Type 0 where
   pub desc : MachineDesc
   pub events : List Event
-  pub asked : (m : Map) → map ≡ Some m → Opens words m (ready desc events)
+  pub asked : (m : Map) → map ≡ Some m → Opens words m None (ready desc events)
   pub described : IsDescription desc
   pub right : IsRight desc [] history released
 
@@ -34,17 +34,6 @@ pub record Releases (words : List (List ℕ)) (map : Option Map) (before after :
   pub accepted : AllAccept old new released
   pub right : IsNothing history released ⊎ IsRightFor words map history released
 
--- a status that may come before the first event
-abbrev pub IsEarly : Status → Type 0
-IsEarly Usage = Unit {0}
-IsEarly (Refused file place rule) = Unit {0}
-IsEarly (Absent file) = Unit {0}
-IsEarly ShelfFault = Unit {0}
-IsEarly NoMemory = Unit {0}
-IsEarly Done = ⊥
-IsEarly ChronicleFault = ⊥
-IsEarly (LineFault line) = ⊥
-
 -- before the first event: nothing was appended and nothing sent
 pub record Idle (status : Status) (before after : Option (List Entry)) (old new : List LineView) : Type 0 where
   pub early : IsEarly status
@@ -55,9 +44,15 @@ pub record Idle (status : Status) (before after : Option (List Entry)) (old new 
 pub record RunsAsked (words : List (List ℕ)) (map : Option Map) (status : Status) (before after : Option (List Entry)) (old new : List LineView) : Type 0 where
   pub desc : MachineDesc
   pub events : List Event
-  pub asked : (m : Map) → map ≡ Some m → Opens words m (ready desc events)
+  pub asked : (m : Map) → map ≡ Some m → Opens words m None (ready desc events)
   pub ran : Ran desc events status before after old new
 
 -- The history and the bytes are exactly those of the two turn rules, for the events that the status says were made.
 abbrev pub Runs : List (List ℕ) → Option Map → Status → Option (List Entry) → Option (List Entry) → List LineView → List LineView → Type 0
 Runs words map status before after old new = Idle status before after old new ⊎ RunsAsked words map status before after old new
+
+-- A status is given only where the words and the shelf's files ask for it, with the load of one file failing, or of none: so a
+-- fault of the shelf comes only at a file before which none is missing or violates a rule.
+pub record IsAnswered (words : List (List ℕ)) (map : Map) (status : Status) : Type 0 where
+  pub failed : Option ℕ
+  pub answers : Answers (Opens words map failed) status

@@ -7,6 +7,7 @@ mod plain;
 mod schedule;
 mod status;
 mod top;
+mod turns;
 
 pub use laws::one_opening;
 pub use status::{Status, number};

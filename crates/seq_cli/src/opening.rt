@@ -1,5 +1,5 @@
 // What is loaded before a run: the machine's file, its image, and the schedule.
-ghost use Rattle.std.specs.Prelude.{◌≡◌, ◌<◌, ◌≤◌, ℕ, List, [], length, IfOk, IfErr, IsErrOf, true, Some, None, Option, MatchOption, map as list_map, string_bytes, OnOk, slice_index_or};
+ghost use Rattle.std.specs.Prelude.{◌≡◌, ◌≢◌, ◌<◌, ◌≤◌, ℕ, List, [], length, IfOk, IfErr, IsErrOf, true, Some, None, Option, MatchOption, map as list_map, string_bytes, OnOk, slice_index_or};
 ghost use Rattle.seq_words.specs.Description.{IsDescription};
 ghost use Rattle.seq_shelf.specs.Causes.{Rose};
 ghost use Rattle.seq_shelf.specs.Told.{Map};
@@ -9,14 +9,16 @@ ghost use Rattle.seq_manifest.specs.Drafts.{Describes, IsDraft};
 ghost use Rattle.seq_manifest.specs.Statements.{is_file};
 ghost use Rattle.seq_manifest.specs.Faults.{first_fault as description_fault};
 ghost use Rattle.seq_cli.specs.Opening.{is_name, form_of, is_built, with_image, schedule_fault, Schedules, OpensForm, ready};
-ghost use Rattle.seq_cli.specs.Loads.{Loads, LoadStops, TextStops, IsLoadStop, Stops, status_of};
+ghost use Rattle.seq_cli.specs.Endings.{IsEarly, Stops};
+ghost use Rattle.seq_cli.specs.Loads.{Loads, LoadStops, TextStops, status_of};
 
 use crate::Status;
 use crate::schedule::read_schedule;
+use crate::turns::Event;
 use seq_loader::{Image, read_image};
 use seq_manifest::{Draft, read as read_description};
 use seq_shelf::{LoadError, Shelf};
-use seq_words::{Bytes, Event, Items, MachineDesc, ReadError};
+use seq_words::{Bytes, Items, MachineDesc, ReadError};
 use std::alloc::Global;
 
 /// The most bytes of a file that is loaded.
@@ -57,6 +59,7 @@ pub fn read_form(words: &[String]) -> Option<(&str, &str)>
 }
 
 // Loads a file.
+#[tactic(auto, using(crate::proofs::Openings::absent_stops, crate::proofs::Openings::long_stops, crate::proofs::Openings::fault_stops))]
 fn load<S: Shelf>(shelf: &mut S, file: u32, name: &str) -> Result<Bytes, Status>
     ensures same { (S.shelf shelf.new).told ≡ (S.shelf shelf.old).told }
     ensures faults { (S.shelf shelf.old).faults ≤ (S.shelf shelf.new).faults }
@@ -64,7 +67,8 @@ fn load<S: Shelf>(shelf: &mut S, file: u32, name: &str) -> Result<Bytes, Status>
     ensures found { (m : Map) → (S.shelf shelf.old).told ≡ Some m →
         IfOk result (λ text. (m name.now ≡ Some text) × (length text ≤ 268435456)) }
     ensures err { (m : Map) → (S.shelf shelf.old).told ≡ Some m → IfErr result (λ s. TextStops s file (m name.now)) }
-    ensures early { IfErr result IsLoadStop }
+    ensures early { IfErr result IsEarly }
+    ensures no_usage { ¬ IsErrOf result Status.Usage }
 {
     match shelf.load(name, FILE_LIMIT) {
         Ok(bytes) => Ok(bytes),
@@ -81,7 +85,8 @@ fn load<S: Shelf>(shelf: &mut S, file: u32, name: &str) -> Result<Bytes, Status>
 
 // The status of a text that a reader gives no value.
 fn unread(file: u32, error: ReadError) -> Status
-    ensures { result ≡ status_of file error }
+    ensures value { result ≡ status_of file error }
+    ensures no_usage { result ≢ Status.Usage }
 {
     match error {
         ReadError::Refused { place, rule } => Status::Refused { file, place, rule },
@@ -95,7 +100,8 @@ fn load_machine<S: Shelf>(alloc: Global, shelf: &mut S, name: &str) -> Result<Dr
     ensures same { (S.shelf shelf.new).told ≡ (S.shelf shelf.old).told }
     ensures faults { (S.shelf shelf.old).faults ≤ (S.shelf shelf.new).faults }
     ensures cause { IsErrOf result Status.ShelfFault → Rose (S.shelf shelf.old).faults (S.shelf shelf.new).faults }
-    ensures early { IfErr result IsLoadStop }
+    ensures early { IfErr result IsEarly }
+    ensures no_usage { ¬ IsErrOf result Status.Usage }
     ensures ok { (m : Map) → (S.shelf shelf.old).told ≡ Some m → IfOk result (Loads description_fault Describes (m name.now)) }
     ensures err { (m : Map) → (S.shelf shelf.old).told ≡ Some m → IfErr result (λ s. LoadStops s 0 description_fault (m name.now)) }
     ensures draft { IfOk result IsDraft }
@@ -121,7 +127,8 @@ fn load_image<S: Shelf>(
     ensures same { (S.shelf shelf.new).told ≡ (S.shelf shelf.old).told }
     ensures faults { (S.shelf shelf.old).faults ≤ (S.shelf shelf.new).faults }
     ensures cause { IsErrOf result Status.ShelfFault → Rose (S.shelf shelf.old).faults (S.shelf shelf.new).faults }
-    ensures early { IfErr result IsLoadStop }
+    ensures early { IfErr result IsEarly }
+    ensures no_usage { ¬ IsErrOf result Status.Usage }
     ensures ok { (m : Map) → (S.shelf shelf.old).told ≡ Some m → IfOk result (Loads first_fault Spells (m name.now)) }
     ensures err { (m : Map) → (S.shelf shelf.old).told ≡ Some m → IfErr result (λ s. LoadStops s file first_fault (m name.now)) }
     ensures image { IfOk result IsImage }
@@ -147,7 +154,8 @@ fn load_schedule<S: Shelf>(
     ensures same { (S.shelf shelf.new).told ≡ (S.shelf shelf.old).told }
     ensures faults { (S.shelf shelf.old).faults ≤ (S.shelf shelf.new).faults }
     ensures cause { IsErrOf result Status.ShelfFault → Rose (S.shelf shelf.old).faults (S.shelf shelf.new).faults }
-    ensures early { IfErr result IsLoadStop }
+    ensures early { IfErr result IsEarly }
+    ensures no_usage { ¬ IsErrOf result Status.Usage }
     ensures ok { (m : Map) → (S.shelf shelf.old).told ≡ Some m → IfOk result (Loads schedule_fault Schedules (m name.now)) }
     ensures err { (m : Map) → (S.shelf shelf.old).told ≡ Some m → IfErr result (λ s. LoadStops s file schedule_fault (m name.now)) }
 {
@@ -226,11 +234,12 @@ pub fn open<S: Shelf>(
 ) -> Result<Loaded, Status>
     ensures same { (S.shelf shelf.new).told ≡ (S.shelf shelf.old).told }
     ensures cause { IsErrOf result Status.ShelfFault → Rose (S.shelf shelf.old).faults (S.shelf shelf.new).faults }
-    ensures early { IfErr result IsLoadStop }
+    ensures early { IfErr result IsEarly }
+    ensures no_usage { ¬ IsErrOf result Status.Usage }
     ensures ok { (m : Map) → (S.shelf shelf.old).told ≡ Some m →
-        IfOk result (λ x. OpensForm m (Some (machine.now, schedule.now)) (ready x.desc x.events)) }
+        IfOk result (λ x. OpensForm m None (Some (machine.now, schedule.now)) (ready x.desc x.events)) }
     ensures err { (m : Map) → (S.shelf shelf.old).told ≡ Some m →
-        IfErr result (Stops (OpensForm m (Some (machine.now, schedule.now)))) }
+        IfErr result (λ s. (failed : Option ℕ) × Stops (OpensForm m failed (Some (machine.now, schedule.now))) s) }
     ensures described { IfOk result (λ x. IsDescription x.desc) }
 {
     let draft = match load_machine(alloc, shelf, machine) {

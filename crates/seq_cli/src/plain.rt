@@ -3,61 +3,20 @@ ghost use Rattle.std.specs.Prelude.{◌≡◌, ◌≢◌, ◌+◌, ◌<◌, ◌�
 ghost use Rattle.seq_words.specs.declared.description.MachineDesc.{MachineDesc};
 ghost use Rattle.seq_words.specs.Description.{IsDescription};
 ghost use Rattle.seq_shelf.specs.Causes.{Rose};
-ghost use Rattle.seq_shelf.specs.Outlets.{view, views, marks};
+ghost use Rattle.seq_shelf.specs.Outlets.{views, marks};
 ghost use Rattle.seq_shelf.specs.Told.{Grows, LineView};
 ghost use Rattle.seq_flat.specs.State.{rights_of, start};
 ghost use Rattle.seq_flat.specs.Run.{output};
-ghost use Rattle.seq_cli.specs.Lines.{Accepts, AllAccept, line_at, on_line};
+ghost use Rattle.seq_shelf.specs.Rows.{AllAccept, line_at, on_line};
 ghost use Rattle.seq_cli.specs.Ran.{StopsAt, Ran};
 ghost use Rattle.seq_cli.specs.Plain.{turn_state, turn_pairs, turn_bytes};
 
 use crate::Status;
+use crate::turns::Event;
 use seq_flat::{Flat, Inputs, StepError};
-use seq_shelf::{Chronicle, ChronicleError, Line, LineError, Outlet};
-use seq_words::{Event, Items, LineNo, MachineDesc, NoMemory, Pid};
+use seq_shelf::{Chronicle, ChronicleError, Line, LineError, Outlet, accepted, send};
+use seq_words::{Items, LineNo, MachineDesc, NoMemory, Pid};
 use std::alloc::Global;
-
-// Sends a byte on an outlet's line.
-fn send_on(outlet: &mut Outlet, byte: u8) -> Result<(), LineError>
-    ensures ok { OnOk result (Accepts (view line outlet.old) (view line outlet.new) (byte ∷ [])) }
-    ensures err { OnErr result (Accepts (view line outlet.old) (view line outlet.new) []) }
-    ensures fault { IsErrOf result LineError.Fault → Rose (view line outlet.old).faults (view line outlet.new).faults }
-    ensures memory { IsErrOf result LineError.NoMemory → Rose (view line outlet.old).refusals (view line outlet.new).refusals }
-    ensures hung { outlet.new.hung ≡ outlet.old.hung }
-{
-    let index = outlet.line.accepted();
-    outlet.line.send(index, byte)
-}
-
-// Sends a byte on a line.
-fn send(lines: &mut Vec<Outlet>, at: usize, byte: u8) -> Result<(), LineError>
-    requires { at < length lines.old.items }
-    ensures ok { OnOk result (AllAccept (views line lines.old.items) (views line lines.new.items) (on_line at (byte ∷ []))) }
-    ensures err { OnErr result (AllAccept (views line lines.old.items) (views line lines.new.items) (on_line at [])) }
-    ensures fault { IsErrOf result LineError.Fault →
-        Rose (line_at (views line lines.old.items) at).faults (line_at (views line lines.new.items) at).faults }
-    ensures memory { IsErrOf result LineError.NoMemory →
-        Rose (line_at (views line lines.old.items) at).refusals (line_at (views line lines.new.items) at).refusals }
-    ensures hung { marks lines.new.items ≡ marks lines.old.items }
-{
-    let outlet = &mut lines[at];
-    send_on(outlet, byte)
-}
-
-// How many bytes an outlet's line has accepted.
-fn accepted_on(outlet: &Outlet) -> u64
-    ensures { result ≡ (view line outlet.now).count }
-{
-    outlet.line.accepted()
-}
-
-// How many bytes a line has accepted.
-fn accepted(lines: &[Outlet], at: usize) -> u64
-    requires { at < length lines.now }
-    ensures { result ≡ (line_at (views line lines.now) at).count }
-{
-    accepted_on(&lines[at])
-}
 
 /// The plain machine.
 #[derive(Drop)]
@@ -95,6 +54,10 @@ impl PlainMachine {
         ensures faults { (C.chronicle chronicle.old).faults ≤ (C.chronicle chronicle.new).faults }
         ensures kinds { IfErr result (λ s. (s ≡ Status.ChronicleFault) ⊎ (s ≡ Status.NoMemory)) }
         ensures cause { IsErrOf result Status.ChronicleFault → Rose (C.chronicle chronicle.old).faults (C.chronicle chronicle.new).faults }
+
+        // Memory was wanting before the chronicle was asked, or it was refused to the chronicle.
+        ensures memory { IsErrOf result Status.NoMemory → (C.chronicle chronicle.new ≡ C.chronicle chronicle.old)
+            ⊎ Rose (C.chronicle chronicle.old).refusals (C.chronicle chronicle.new).refusals }
         ensures stops { (pe : _) (count : ℕ) (old new : List LineView) →
             IfErr result (λ s. StopsAt s self.old.desc self.old.flat.state count old new (Event.Processor pe)) }
     {
@@ -158,6 +121,8 @@ impl PlainMachine {
         ensures marks { marks lines.new.items ≡ marks lines.old.items }
         ensures faults { (C.chronicle chronicle.old).faults ≤ (C.chronicle chronicle.new).faults }
         ensures chronicle { IsErrOf result Status.ChronicleFault → Rose (C.chronicle chronicle.old).faults (C.chronicle chronicle.new).faults }
+        ensures chronicle_memory { IsErrOf result Status.NoMemory → (C.chronicle chronicle.new ≡ C.chronicle chronicle.old)
+            ⊎ Rose (C.chronicle chronicle.old).refusals (C.chronicle chronicle.new).refusals }
         ensures line { IsErrOf result (Status.LineFault (record { 0 = 0 })) →
             Rose (line_at (views line lines.old.items) 0).faults (line_at (views line lines.new.items) 0).faults }
     {

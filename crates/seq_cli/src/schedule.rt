@@ -3,7 +3,8 @@ ghost use Rattle.std.specs.Prelude.{◌≡◌, ◌<◌, ℕ, IfOk, Option, Some,
 ghost use Rattle.std.specs.Option.{option_map};
 ghost use Rattle.seq_cli.specs.Schedule.{event_of, events_of, schedule_of};
 
-use seq_words::{Event, Ioe, Items, NoMemory, Pe};
+use crate::turns::Event;
+use seq_words::{Ioe, Items, NoMemory, Pe};
 use std::alloc::Global;
 
 /// The bytes of each line, with the byte that ends it.

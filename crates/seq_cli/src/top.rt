@@ -1,11 +1,11 @@
 // The top call: all that the program does.
-ghost use Rattle.std.specs.Prelude.{◌≡◌, ◌↔◌, ◌≤◌, ℕ, List, [], length, Some, None, false, map as list_map, string_bytes, OnOk, ◌+◌, ◌⊎◌};
+ghost use Rattle.std.specs.Prelude.{◌≡◌, ◌↔◌, ◌≤◌, ℕ, List, [], length, Some, None, false, map as list_map, string_bytes, OnOk, OnErr, ◌+◌, ◌++◌, ◌∷◌, ◌⊎◌};
 ghost use Rattle.seq_shelf.specs.Causes.{Rose};
 ghost use Rattle.seq_shelf.specs.Outlets.{views, marks};
 ghost use Rattle.seq_shelf.specs.Told.{Map};
-ghost use Rattle.seq_cli.specs.Lines.{line_at, AreFresh};
-ghost use Rattle.seq_cli.specs.Opening.{form_of, Opens, Answers, AsksRun};
-ghost use Rattle.seq_cli.specs.Top.{Releases, Runs};
+ghost use Rattle.seq_shelf.specs.Rows.{line_at, AreFresh};
+ghost use Rattle.seq_cli.specs.Opening.{form_of, Opens, AsksRun};
+ghost use Rattle.seq_cli.specs.Top.{Releases, Runs, IsAnswered};
 
 use crate::Status;
 use crate::opening::{open, read_form};
@@ -42,14 +42,14 @@ pub fn sequoia<S: Shelf, K: Sink, C: Chronicle>(
     // Each status has its cause.
     ensures usage { result ≡ Status.Usage ↔ (form_of (list_map string_bytes words.now) ≡ None) }
     ensures answers { (m : Map) → (S.shelf shelf.old).told ≡ Some m →
-        Answers (Opens (list_map string_bytes words.now) m) result }
+        IsAnswered (list_map string_bytes words.now) m result }
     ensures shelf_fault { result ≡ Status.ShelfFault → Rose (S.shelf shelf.old).faults (S.shelf shelf.new).faults }
     ensures chronicle_fault { result ≡ Status.ChronicleFault → Rose (C.chronicle chronicle.old).faults (C.chronicle chronicle.new).faults }
     ensures line_fault { (l : _) → result ≡ Status.LineFault l →
         Rose (line_at (views line lines.old.items) l.0).faults (line_at (views line lines.new.items) l.0).faults }
 
     // Where a run is asked for and no count rises, it comes to its end, unless memory is wanting.
-    ensures complete { (m : Map) → (S.shelf shelf.old).told ≡ Some m → AsksRun (Opens (list_map string_bytes words.now) m)
+    ensures complete { (m : Map) → (S.shelf shelf.old).told ≡ Some m → AsksRun (Opens (list_map string_bytes words.now) m None)
         → ¬ Rose (S.shelf shelf.old).faults (S.shelf shelf.new).faults
         → ¬ Rose (C.chronicle chronicle.old).faults (C.chronicle chronicle.new).faults
         → ((l : ℕ) → ¬ Rose (line_at (views line lines.old.items) l).faults (line_at (views line lines.new.items) l).faults)
@@ -74,10 +74,14 @@ pub fn sequoia<S: Shelf, K: Sink, C: Chronicle>(
     }
 }
 
-/// Adds a line that has accepted nothing.
+/// Adds a line that has accepted nothing: the rows are the old ones with the new line as their last.
 pub fn add_line(lines: &mut Vec<Outlet>, boxed: Box<dyn Line>) -> Result<(), NoMemory>
     requires fresh { (line boxed).count ≡ 0 }
     requires all_fresh { AreFresh (views (λ z. (⟦<dyn Line as Line>⟧ z.0).line z.1) lines.old.items) (marks lines.old.items) }
+    ensures rows { OnOk result (views (λ z. (⟦<dyn Line as Line>⟧ z.0).line z.1) lines.new.items ≡
+        views (λ z. (⟦<dyn Line as Line>⟧ z.0).line z.1) lines.old.items ++ line boxed ∷ []) }
+    ensures marks { OnOk result (marks lines.new.items ≡ marks lines.old.items ++ false ∷ []) }
+    ensures err { OnErr result (lines.new.items ≡ lines.old.items) }
     ensures number { OnOk result (length lines.new.items ≡ length lines.old.items + 1) }
     ensures all_fresh { AreFresh (views (λ z. (⟦<dyn Line as Line>⟧ z.0).line z.1) lines.new.items) (marks lines.new.items) }
 {

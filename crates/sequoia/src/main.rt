@@ -2,26 +2,39 @@
 #![tactic(auto)]
 
 ghost use Rattle.std.specs.Prelude.{◌≡◌, length};
+ghost use Rattle.std.specs.IoError.{error_kind};
+ghost use Rattle.std.specs.Process.{exit_status};
+ghost use Rattle.seq_cli.specs.Numbers.{number_of};
+ghost use Rattle.sequoia.specs.Words.{unread_status};
 ghost use Rattle.seq_shelf.specs.Outlets.{views, marks};
-ghost use Rattle.seq_cli.specs.Lines.{AreFresh};
+ghost use Rattle.seq_shelf.specs.Rows.{AreFresh};
 
 use seq_cli::{Status, add_line, number, sequoia};
-use seq_shelf::{FileLine, FileShelf, OutSink, SoundChronicle};
+use seq_shelf::{FileLine, FileShelf, OutSink, SoundChronicle, open_output};
 use std::alloc::{AllocError, Global};
-use std::env;
 use std::env::Env;
 use std::io::ErrorKind;
 use std::process::ExitCode;
+use std::{env, io};
 
 /// The number of lines of the largest machine.
 const LINES: u8 = 16;
+
+// Why the command line gives no words: usage where a word isn't UTF-8, else want of memory.
+fn unread(error: &io::Error) -> Status
+    ensures { result ≡ unread_status (error_kind error.now) }
+{
+    match error.kind() {
+        ErrorKind::InvalidData => Status::Usage,
+        _ => Status::NoMemory,
+    }
+}
 
 // The words after the program's name: usage where one of them isn't UTF-8.
 fn read_words(rt: &(impl Env + AllocGlobal), alloc: Global) -> Result<Vec<String>, Status> {
     let all = match env::args(rt) {
         Ok(all) => all,
-        Err(error) if error.kind() == ErrorKind::InvalidData => return Err(Status::Usage),
-        Err(_) => return Err(Status::NoMemory),
+        Err(error) => return Err(unread(&error)),
     };
     let mut words = Vec::new(alloc);
     for word in all.skip(1) {
@@ -37,13 +50,16 @@ fn line_file(alloc: Global, line: u8) -> Result<String, AllocError> {
     format!(in alloc; "line{line}.out")
 }
 
-fn exit_code(status: &Status) -> ExitCode {
+fn exit_code(status: &Status) -> ExitCode
+    ensures { exit_status result ≡ number_of status.now }
+{
     ExitCode::from(number(status))
 }
 
 // Makes the outside, and does what the words ask for.
 fn command(rt: HostRuntime) -> Result<ExitCode, AllocError> {
     let alloc = rt.alloc();
+    let mut sink = OutSink::new(open_output(rt.stdout()));
     let mut lines = Vec::new(alloc);
     for n in 0..LINES {
         let line = FileLine::new(rt.clone()?, line_file(alloc, n)?);
@@ -56,7 +72,6 @@ fn command(rt: HostRuntime) -> Result<ExitCode, AllocError> {
         Err(status) => return Ok(exit_code(&status)),
     };
     let mut shelf = FileShelf::new(rt.clone()?, alloc);
-    let mut sink = OutSink::new(rt.clone()?);
     let mut chronicle = SoundChronicle::new(alloc);
     let status = sequoia(
         alloc,

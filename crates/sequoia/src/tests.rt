@@ -1,11 +1,12 @@
 // Whole commands, with the outside in memory.
 ghost use Rattle.std.specs.Prelude.{◌≡◌, length, IfOk};
 ghost use Rattle.seq_shelf.specs.Outlets.{views, marks};
-ghost use Rattle.seq_cli.specs.Lines.{AreFresh};
+ghost use Rattle.seq_shelf.specs.Rows.{AreFresh};
 
 use super::*;
-use seq_shelf::{Line, MemChronicle, MemLine, MemShelf, Outlet, SoundLine, SoundSink};
+use seq_shelf::{Line, MemChronicle, MemLine, MemShelf, Outlet, SoundSink, accepted};
 use seq_words::{Bytes, Entry, LineNo, NoMemory, Pid};
+use std::env::FillError;
 use std::fs;
 use std::test::Fail;
 
@@ -239,122 +240,353 @@ const LONG_IMAGE: [u8; 17] = [
     0x53, 0x51, 0x49, 0x31, 0x20, 0, 1, 0, 0, 0, 0, 0, 0, 0, 0, 0, 0,
 ];
 
-// Commands that are answered before any run: the words, the description, the image, and the status.
-const OPENINGS: [(&[&str], &str, &[u8], Status); 12] = [
-    (&[], MACHINE, &HELLO, Status::Usage),
-    (&["run", "a1.txt"], MACHINE, &HELLO, Status::Usage),
-    (&["run", "-a1.txt", "s.txt"], MACHINE, &HELLO, Status::Usage),
-    (&["run", "", "s.txt"], MACHINE, &HELLO, Status::Usage),
-    (&["walk", "a1.txt", "s.txt"], MACHINE, &HELLO, Status::Usage),
-    (
-        &["run", "a2.txt", "s.txt"],
-        MACHINE,
-        &HELLO,
-        Status::Absent { file: 0 },
-    ),
-    (
-        &["run", "a1.txt", "s2.txt"],
-        MACHINE,
-        &HELLO,
-        Status::Absent { file: 2 },
-    ),
-    (
-        RUN,
-        "# comment\nsequoia 1\nprocessors\t1\nmemories 2\nios 1\r\ncache 16\nquantum 1000\n\njournal 32\nprocess  none.sqi lines 0 segments -",
-        &HELLO,
-        Status::Absent { file: 1 },
-    ),
-    (
-        RUN,
-        "sequoia 1\nprocessors 0\nmemories 2\n",
-        &HELLO,
-        Status::Refused {
+// A command that is answered before any run: the words, the description, the image, what fails, and the status.
+#[derive(Clone, Copy)]
+struct Early {
+    words: &'static [&'static str],
+    machine: &'static str,
+    image: &'static [u8],
+    failing: Failing,
+    status: Status,
+}
+
+const OPENINGS: [Early; 19] = [
+    Early {
+        words: &[],
+        machine: MACHINE,
+        image: &HELLO,
+        failing: NONE,
+        status: Status::Usage,
+    },
+    Early {
+        words: &["run", "a1.txt"],
+        machine: MACHINE,
+        image: &HELLO,
+        failing: NONE,
+        status: Status::Usage,
+    },
+    Early {
+        words: &["run", "-a1.txt", "s.txt"],
+        machine: MACHINE,
+        image: &HELLO,
+        failing: NONE,
+        status: Status::Usage,
+    },
+    Early {
+        words: &["run", "", "s.txt"],
+        machine: MACHINE,
+        image: &HELLO,
+        failing: NONE,
+        status: Status::Usage,
+    },
+    Early {
+        words: &["walk", "a1.txt", "s.txt"],
+        machine: MACHINE,
+        image: &HELLO,
+        failing: NONE,
+        status: Status::Usage,
+    },
+    Early {
+        words: &["run", "a2.txt", "s.txt"],
+        machine: MACHINE,
+        image: &HELLO,
+        failing: NONE,
+        status: Status::Absent { file: 0 },
+    },
+    Early {
+        words: &["run", "a1.txt", "s2.txt"],
+        machine: MACHINE,
+        image: &HELLO,
+        failing: NONE,
+        status: Status::Absent { file: 2 },
+    },
+    Early {
+        words: RUN,
+        machine: "# comment\nsequoia 1\nprocessors\t1\nmemories 2\nios 1\r\ncache 16\nquantum 1000\n\njournal 32\nprocess  none.sqi lines 0 segments -",
+        image: &HELLO,
+        failing: NONE,
+        status: Status::Absent { file: 1 },
+    },
+    Early {
+        words: RUN,
+        machine: "sequoia 1\nprocessors 0\nmemories 2\n",
+        image: &HELLO,
+        failing: NONE,
+        status: Status::Refused {
             file: 0,
             place: 2,
             rule: 12,
         },
-    ),
-    (
-        RUN,
-        "sequoia 1\nprocessors 2\nmemories 2\nios 1\ncache 16\nquantum 1000\njournal 32\nprocess hello.sqi lines 0 segments -\n",
-        &HELLO,
-        Status::Refused {
+    },
+    Early {
+        words: RUN,
+        machine: "sequoia 1\nprocessors 2\nmemories 2\nios 1\ncache 16\nquantum 1000\njournal 32\nprocess hello.sqi lines 0 segments -\n",
+        image: &HELLO,
+        failing: NONE,
+        status: Status::Refused {
             file: 0,
             place: 0,
             rule: 0,
         },
-    ),
-    (
-        RUN,
-        MACHINE,
-        b"SQI1",
-        Status::Refused {
+    },
+    Early {
+        words: RUN,
+        machine: MACHINE,
+        image: b"SQI1",
+        failing: NONE,
+        status: Status::Refused {
             file: 1,
             place: 4,
             rule: 21,
         },
-    ),
-    (
-        RUN,
-        MACHINE,
-        &LONG_IMAGE,
-        Status::Refused {
+    },
+    Early {
+        words: RUN,
+        machine: MACHINE,
+        image: &LONG_IMAGE,
+        failing: NONE,
+        status: Status::Refused {
             file: 1,
             place: 4,
             rule: 22,
         },
-    ),
+    },
+    // A load that fails is a fault of the shelf, also where its own file or a later one is faulty.
+    Early {
+        words: RUN,
+        machine: "sequoia 1\nprocessors 0\nmemories 2\n",
+        image: &HELLO,
+        failing: Failing {
+            loads: &[0],
+            appends: &[],
+            sends: &[],
+        },
+        status: Status::ShelfFault,
+    },
+    Early {
+        words: RUN,
+        machine: "sequoia 1\nprocessors 1\nmemories 2\nios 1\ncache 16\nquantum 1000\njournal 32\nprocess none.sqi lines 0 segments -\n",
+        image: &HELLO,
+        failing: Failing {
+            loads: &[0],
+            appends: &[],
+            sends: &[],
+        },
+        status: Status::ShelfFault,
+    },
+    Early {
+        words: RUN,
+        machine: MACHINE,
+        image: b"SQI1",
+        failing: Failing {
+            loads: &[1],
+            appends: &[],
+            sends: &[],
+        },
+        status: Status::ShelfFault,
+    },
+    Early {
+        words: &["run", "a1.txt", "s2.txt"],
+        machine: MACHINE,
+        image: &HELLO,
+        failing: Failing {
+            loads: &[1],
+            appends: &[],
+            sends: &[],
+        },
+        status: Status::ShelfFault,
+    },
+    Early {
+        words: &["run", "a1.txt", "s2.txt"],
+        machine: MACHINE,
+        image: &HELLO,
+        failing: Failing {
+            loads: &[2],
+            appends: &[],
+            sends: &[],
+        },
+        status: Status::ShelfFault,
+    },
+    // And it comes too late where an earlier file is faulty.
+    Early {
+        words: RUN,
+        machine: "sequoia 1\nprocessors 0\nmemories 2\n",
+        image: &HELLO,
+        failing: Failing {
+            loads: &[1, 2],
+            appends: &[],
+            sends: &[],
+        },
+        status: Status::Refused {
+            file: 0,
+            place: 2,
+            rule: 12,
+        },
+    },
+    Early {
+        words: RUN,
+        machine: MACHINE,
+        image: b"SQI1",
+        failing: Failing {
+            loads: &[2],
+            appends: &[],
+            sends: &[],
+        },
+        status: Status::Refused {
+            file: 1,
+            place: 4,
+            rule: 21,
+        },
+    },
 ];
 
 #[test]
 fn openings(rt: HostRuntime) -> Result<(), Fail> {
     let alloc = rt.alloc();
-    for (words, machine, image, wanted) in OPENINGS {
+    for row in OPENINGS {
         let mut lines = Vec::new(alloc);
         for n in 0u8..16 {
-            let line = SoundLine::new(alloc);
+            let line = failing_line(alloc, row.failing.sends)?;
             add_line(&mut lines, Box::new(alloc, line)?)?;
         }
         let files = Files {
-            machine,
-            image,
+            machine: row.machine,
+            image: row.image,
             schedule: EIGHT_STEPS,
         };
-        let (status, entries) = run(alloc, words, files, NONE, &mut lines)?;
-        assert_eq!(rt; status, wanted);
+        let (status, entries) = run(alloc, row.words, files, row.failing, &mut lines)?;
+        assert_eq!(rt; status, row.status);
         assert_eq!(rt; entries, Some(0));
         assert_eq!(rt; lines.len(), 16);
-        assert_eq!(rt; lines[0].line.accepted(), 0);
+        assert_eq!(rt; accepted(&lines, 0), 0);
     }
     Ok(())
 }
 
-// The same over files, with the bytes of line 0 in a file of its own.
+// A schedule of so many turns of the processor, and one of the I/O element.
+fn turns(alloc: Global, count: usize) -> Result<Vec<u8>, AllocError> {
+    let mut text = Vec::new(alloc);
+    for _ in 0..count {
+        text.extend_from_slice(b"turn p0\n")?;
+    }
+    text.extend_from_slice(b"turn i0\n")?;
+    Ok(text)
+}
+
+// Commands over files: the words, the turns of the processor, the exit status, and the bytes of line 0 in its file, where
+// there is one. The long schedule has 2,400,008 bytes.
+const COMMANDS: [(&[&str], usize, u8, Option<&str>); 4] = [
+    (RUN, 8, 0, Some("A")),
+    (RUN, 300_000, 0, Some("A")),
+    (&["run", "a1.txt"], 8, 2, None),
+    (&["run", "none.txt", "s.txt"], 8, 3, None),
+];
+
 #[test]
 fn over_files(rt: HostRuntime) -> Result<(), Fail> {
     let alloc = rt.alloc();
-    let mut shelf = FileShelf::new(&rt, alloc);
     fs::write(&rt, "a1.txt", MACHINE)?;
     fs::write(&rt, "hello.sqi", HELLO)?;
-    fs::write(&rt, "s.txt", EIGHT_STEPS)?;
-    let mut lines = Vec::new(alloc);
-    for n in 0..LINES {
-        let line = FileLine::new(rt.clone()?, line_file(alloc, n)?);
-        add_line(&mut lines, Box::new(alloc, line)?)?;
+    for (words, count, code, bytes) in COMMANDS {
+        let schedule = turns(alloc, count)?;
+        fs::write(&rt, "s.txt", schedule.as_slice())?;
+        let mut lines = Vec::new(alloc);
+        for n in 0..LINES {
+            let line = FileLine::new(rt.clone()?, line_file(alloc, n)?);
+            add_line(&mut lines, Box::new(alloc, line)?)?;
+        }
+        let mut shelf = FileShelf::new(&rt, alloc);
+        let mut sink = OutSink::new(Some(&rt));
+        let mut chronicle = SoundChronicle::new(alloc);
+        let words = words_of(alloc, words)?;
+        let status = sequoia(
+            alloc,
+            &words,
+            &mut shelf,
+            &mut lines,
+            &mut chronicle,
+            &mut sink,
+        );
+        assert_eq!(rt; exit_code(&status), ExitCode::from(code));
+        let found = fs::read_to_string(&rt, "line0.out").ok();
+        assert_eq!(rt; found.as_ref().map(|text| text.as_str()), bytes);
+        if found.is_some() {
+            fs::remove_file(&rt, "line0.out")?;
+        }
     }
-    let mut sink = OutSink::new(&rt);
-    let mut chronicle = SoundChronicle::new(alloc);
-    let words = words_of(alloc, RUN)?;
-    let status = sequoia(
-        alloc,
-        &words,
-        &mut shelf,
-        &mut lines,
-        &mut chronicle,
-        &mut sink,
-    );
-    assert_eq!(rt; status, Status::Done);
-    assert_eq!(rt; chronicle.pairs().len(), 8);
-    assert_eq!(rt; fs::read_to_string(&rt, "line0.out")?.as_str(), "A");
     Ok(())
+}
+
+// Each of the sixteen lines has a file of its own.
+#[test]
+fn files_of_lines(rt: HostRuntime) -> Result<(), Fail> {
+    let alloc = rt.alloc();
+    for n in 0..LINES {
+        let mut line = FileLine::new(rt.clone()?, line_file(alloc, n)?);
+        assert_eq!(rt; line.send(0, 0x41 + n), Ok(()));
+    }
+    for (name, text) in [
+        ("line0.out", "A"),
+        ("line3.out", "D"),
+        ("line10.out", "K"),
+        ("line15.out", "P"),
+    ] {
+        assert_eq!(rt; fs::read_to_string(&rt, name)?.as_str(), text);
+        fs::remove_file(&rt, name)?;
+    }
+    Ok(())
+}
+
+// A command line of these words, the program's name first.
+#[derive(Drop)]
+struct Told {
+    words: &'static [&'static [u8]],
+}
+
+impl Env for Told {
+    fn arg(&self, i: usize, buf: &mut [u8]) -> Result<usize, FillError> {
+        let Some(word) = self.words.get(i) else {
+            return Err(FillError::NotPresent);
+        };
+        if word.len() > buf.len() {
+            return Err(FillError::TooLong);
+        }
+        for (to, from) in buf.iter_mut().zip(word.iter()) {
+            *to = *from;
+        }
+        Ok(word.len())
+    }
+
+    fn var(&self, _name: &str, _buf: &mut [u8]) -> Result<usize, FillError> {
+        Err(FillError::NotPresent)
+    }
+
+    fn var_at(&self, _i: usize, _buf: &mut [u8]) -> Result<usize, FillError> {
+        Err(FillError::NotPresent)
+    }
+}
+
+// Command lines with the first of the words that are read, and how many those are: none where the words can't be read.
+const COMMAND_LINES: [(&[&[u8]], Option<(&str, usize)>); 4] = [
+    (&[b"sequoia", b"run", b"a1.txt", b"s.txt"], Some(("run", 3))),
+    (&[b"sequoia"], Some(("", 0))),
+    (&[], Some(("", 0))),
+    (&[b"sequoia", b"run", &[0x61, 0xff], b"s.txt"], None),
+];
+
+#[test]
+fn words_begin_after_the_name(rt: HostRuntime) {
+    let alloc = rt.alloc();
+    for (words, wanted) in COMMAND_LINES {
+        match read_words(&(Told { words }, alloc), alloc) {
+            Ok(found) => {
+                let first = found.first().map_or("", |word| word.as_str());
+                assert_eq!(rt; Some((first, found.len())), wanted);
+            }
+            Err(status) => {
+                assert_eq!(rt; status, Status::Usage);
+                assert!(rt; wanted.is_none());
+            }
+        }
+    }
 }

@@ -1,7 +1,7 @@
 use Rattle.std.proofs.Common.{ℕ, ◌<◌, List, Err, length, ◌∙◌, ap, subst, sym, arith, inr}
 use Rattle.seq_shelf.specs.Outlets.{views}
 use Rattle.seq_flat.specs.Run.{output}
-use Rattle.seq_cli.specs.Lines.{AllAccept, line_at, on_line}
+use Rattle.seq_shelf.specs.Rows.{AllAccept, line_at, on_line}
 use Rattle.seq_cli.proofs.Sends.{turn_bytes-sent}
 use Rattle.seq_cli.proofs.plain.io_turn.Goals as goal
 

@@ -1,6 +1,6 @@
 use Rattle.std.proofs.Common.{◌≡◌, length}
 use Rattle.seq_shelf.specs.Outlets.{views, marks}
-use Rattle.seq_cli.specs.Lines.{AreFresh}
+use Rattle.seq_shelf.specs.Rows.{AreFresh}
 use Rattle.sequoia.proofs.tests.over_files.OwnLists.{own-1}
 use Rattle.sequoia.proofs.tests.over_files.Given as goal
 

@@ -1,5 +1,5 @@
 use Rattle.std.proofs.Common.{◌∙◌, arith}
-use Rattle.seq_words.specs.declared.events.Event.TheVariants.{Processor}
+use Rattle.seq_cli.specs.declared.turns.Event.TheVariants.{Processor}
 use Rattle.seq_cli.proofs.Runs.{going_on_at, ran_until_at}
 use Rattle.seq_cli.proofs.plain.PlainMachine.run.Goals as goal
 

@@ -1,7 +1,7 @@
 use Rattle.std.proofs.Common.{◌≡◌, OnOk, sym, subst}
 use Rattle.seq_shelf.specs.Told.{Grows}
 use Rattle.seq_shelf.specs.Outlets.{views}
-use Rattle.seq_cli.specs.Lines.{AllAccept, line_at, on_line}
+use Rattle.seq_shelf.specs.Rows.{AllAccept, line_at, on_line}
 use Rattle.seq_cli.specs.Plain.{turn_state, turn_pairs, turn_bytes}
 use Rattle.seq_cli.proofs.plain.PlainMachine.turn.Goals as goal
 
