@@ -1,11 +1,12 @@
 -- Where a text is cut into lines, and a line into words.
 use Rattle.std.proofs.Common.{◌≡◌, ℕ, zero, suc, ◌+◌, ◌-◌, ◌<◌, ◌≤◌, Bool, true, false, not, cond, ltb, eqb, List, [], ◌∷◌, ◌++◌, length, take, drop, get_or, Option, Some, None, All, unwrap_or, refl, sym, ap, subst, ◌∙◌, arith}
-use Rattle.std.specs.List.{filter, slice_split, position, position_or_len, before_first, after_first}
-use Rattle.std.specs.Str.Lines.{lines, lines_of_parts, strip_carriage_return}
+use Rattle.std.specs.List.{filter, slice_split, position, position_or_len}
+use Rattle.std.specs.Str.Lines.{lines_of_parts, strip_carriage_return}
 use Rattle.std.proofs.lemmas.Bool.{ltb-true, ltb-false, lt-ltb, ne_eqb, not-false, not-true, both_ways}
 use Rattle.std.proofs.lemmas.List.{take-append-drop, length-take, length-drop, get_or-take, get_or-drop, append-nil, drop_more, drop_all, take_all}
 use Rattle.std.proofs.lemmas.List.Splits.{slice_split-cons_yes, slice_split_none, slice_split_first, length-slice_split}
 use Rattle.std.proofs.lemmas.List.Sums.{fails_before_first, passes_at_first}
+use Rattle.seq_text.specs.Cuts.{parts_behind}
 use Rattle.seq_text.specs.Lines.{lines_of}
 use Rattle.seq_text.specs.Words.{is_blank, words_of}
 
@@ -34,23 +35,35 @@ parts_more : (x : List ℕ) (parts : List (List ℕ)) → 0 < length parts → l
 parts_more x [] h = absurd (omega arith)
 parts_more x (y ∷ more) h = refl
 
-pub lines_of-first : (text : List ℕ) (end : ℕ) → position (λ byte. eqb byte 10) text ≡ Some end → lines_of text ≡ strip_carriage_return (take end text) ∷ lines_of (drop (end + 1) text)
+pub lines_of-more : (text front rest : List ℕ) → slice_split (λ b. eqb b 10) text ≡ front ∷ slice_split (λ b. eqb b 10) rest → lines_of text ≡ strip_carriage_return front ∷ lines_of rest
 unfolding lines_of
-lines_of-first text end e =
-    let p = position_some (λ byte. eqb byte 10) text end e in
-    let lt : position_or_len (λ byte. eqb byte 10) text < length text = omega (arith, p.0, p.1) in
-    let cut = slice_split_first (λ byte. eqb byte 10) text 0 lt in
-    let many : 0 < length (slice_split (λ byte. eqb byte 10) (after_first (λ byte. eqb byte 10) text)) = omega (arith, length-slice_split (λ byte. eqb byte 10) (after_first (λ byte. eqb byte 10) text)) in
-    let whole : lines text ≡ strip_carriage_return (before_first (λ byte. eqb byte 10) text) ∷ lines (after_first (λ byte. eqb byte 10) text) = ap lines_of_parts cut ∙ parts_more _ _ many in
-    subst (λ n. lines text ≡ strip_carriage_return (take n text) ∷ lines (drop (n + 1) text)) p.0 whole
+lines_of-more text front rest cut =
+    let many : 0 < length (slice_split (λ b. eqb b 10) rest) = omega (arith, length-slice_split (λ b. eqb b 10) rest) in
+    ap lines_of_parts cut ∙ parts_more front (slice_split (λ b. eqb b 10) rest) many
 
-pub lines_of-last : (text : List ℕ) → 0 < length text → position (λ byte. eqb byte 10) text ≡ None → lines_of text ≡ text ∷ lines_of []
+pub lines_of-last : (text last : List ℕ) → 0 < length text → last ≡ text → slice_split (λ b. eqb b 10) text ≡ last ∷ [] → lines_of text ≡ last ∷ lines_of []
 unfolding lines_of
-lines_of-last text some e =
-    let le = position_none (λ byte. eqb byte 10) text e in
-    let cut = slice_split_none (λ byte. eqb byte 10) text (λ k d lt. fails_before_first (λ byte. eqb byte 10) text k d (omega (arith, le, lt))) in
-    let ne : eqb (length text) 0 ≡ false = ne_eqb _ _ (λ z. absurd (omega arith)) in
+lines_of-last text last some same cut =
+    let ne : eqb (length last) 0 ≡ false = ne_eqb _ _ (λ z. absurd (let len = ap length same in omega (arith, some, len, z))) in
     ap lines_of_parts cut ∙ rw ne refl
+
+-- ---- parts
+
+pub parts-none : (byte : ℕ) (text : List ℕ) → position (λ b. eqb b byte) text ≡ None → slice_split (λ b. eqb b byte) text ≡ text ∷ parts_behind byte None
+parts-none byte text e =
+    let le = position_none (λ b. eqb b byte) text e in
+    slice_split_none (λ b. eqb b byte) text (λ k d lt. fails_before_first (λ b. eqb b byte) text k d (omega (arith, le, lt)))
+
+pub parts-some : (byte : ℕ) (text part rest : List ℕ) (end : ℕ) → position (λ b. eqb b byte) text ≡ Some end → part ≡ take end text → rest ≡ drop (end + 1) text → slice_split (λ b. eqb b byte) text ≡ part ∷ parts_behind byte (Some rest)
+parts-some byte text part rest end e p r =
+    let at = position_some (λ b. eqb b byte) text end e in
+    let lt : position_or_len (λ b. eqb b byte) text < length text = omega (arith, at.0, at.1) in
+    let cut = slice_split_first (λ b. eqb b byte) text 0 lt in
+    let there : slice_split (λ b. eqb b byte) text ≡ take end text ∷ slice_split (λ b. eqb b byte) (drop (end + 1) text) = subst (λ n. slice_split (λ b. eqb b byte) text ≡ take n text ∷ slice_split (λ b. eqb b byte) (drop (n + 1) text)) at.0 cut in
+    there ∙ both (take end text) part (drop (end + 1) text) rest p r
+  where
+    both : (a part b rest : List ℕ) → part ≡ a → rest ≡ b → a ∷ slice_split (λ c. eqb c byte) b ≡ part ∷ parts_behind byte (Some rest)
+    both a part b rest p r = cc
 
 -- ---- words
 
@@ -153,6 +166,3 @@ word_end-some line rest start None p e f =
     let lt = (position_some (λ byte. not (is_blank byte)) line start p).1 in
     let len : length rest ≡ length line - start = ap length e ∙ length-drop start line in
     omega (arith, lt, len)
-
-pub lines_of-cut : (text line rest : List ℕ) (end : ℕ) → position (λ byte. eqb byte 10) text ≡ Some end → line ≡ strip_carriage_return (take end text) → rest ≡ drop (end + 1) text → lines_of text ≡ line ∷ lines_of rest
-lines_of-cut text line rest end p l r = let e = lines_of-first text end p in cc

@@ -3,7 +3,7 @@ use Rattle.std.proofs.Common.{◌≡◌, ℕ, zero, suc, ◌+◌, ◌-◌, ◌*�
 use Rattle.std.specs.List.{list_all}
 use Rattle.std.specs.Char.{digit_value}
 use Rattle.std.specs.Str.Parse.{digits_value, digits_value_after, AllDigits}
-use Rattle.std.proofs.Math.Nat.{pow-suc, pow-le-pow_right, mul-le-mul_right, min-eq_left, min-eq_right}
+use Rattle.std.proofs.Math.Nat.{pow-suc, pow-le-pow_right, mul-le-mul_right, min-eq_right}
 use Rattle.std.proofs.lemmas.Bool.{and_parts, leb-true, ltb-true, eqb-false, lt-ltb, le-ltb, or_cases, not-true, cases_lt, cases_order}
 use Rattle.std.proofs.lemmas.List.{ext_get_or}
 use Rattle.std.proofs.lemmas.Str.{digit_value_digit}
@@ -137,29 +137,29 @@ same_digits a b len same =
     let e : a ≡ b = ext_get_or 0 a b len same in
     sym (le-ltb _ _ (omega (arith, ap (digits_value 10) e)))
 
--- more than eighteen digits write no less than 10 ^ 18
-pub capped-long : (word : List ℕ) → is_number word ≡ true → 18 < length word → min (digits_value 10 word) (10 ^ 18) ≡ 10 ^ 18
+-- more than twenty digits write more than 64 bits hold
+pub capped-long : (word : List ℕ) → is_number word ≡ true → 20 < length word → min (digits_value 10 word) (2 ^ 64) ≡ 2 ^ 64
 capped-long [] e h = absurd (omega arith)
 capped-long (c ∷ cs) e h =
     let low = value-ge c cs e (omega arith) in
-    let le : 18 ≤ length cs = omega arith in
-    let pow : 10 ^ 18 ≤ 10 ^ length cs = pow-le-pow_right (omega arith) le in
+    let le : 20 ≤ length cs = omega arith in
+    let pow : 10 ^ 20 ≤ 10 ^ length cs = pow-le-pow_right (omega arith) le in
     min-eq_right (omega (arith, low, pow))
 
-pub value-small : (ds : List ℕ) → list_all is_digit ds ≡ true → length ds ≤ 18 → digits_value 10 ds < 10 ^ 18
+pub value-small : (ds : List ℕ) → list_all is_digit ds ≡ true → length ds ≤ 20 → digits_value 10 ds < 10 ^ 20
 value-small ds e few =
     let high = value-lt ds e in
-    let pow : 10 ^ length ds ≤ 10 ^ 18 = pow-le-pow_right (omega arith) few in
+    let pow : 10 ^ length ds ≤ 10 ^ 20 = pow-le-pow_right (omega arith) few in
     omega (arith, high, pow)
 
 -- the bound on the number so far, one digit on
-pub room : (value digit i : ℕ) → value < 10 ^ i → i < 18 → digit < 10 → (value * 10 + digit < 10 ^ (i + 1)) × (value * 10 + digit < 10 ^ 18)
+pub room : (value digit i : ℕ) → value < 10 ^ i → i < 20 → digit < 10 → (value * 10 + digit < 10 ^ (i + 1)) × (value * 10 + digit < 10 ^ 20)
 room value digit i lt few small =
     let pow : 10 ^ suc i ≡ 10 ^ i * 10 = pow-suc 10 i in
     let one : i + 1 ≡ suc i = omega arith in
     let at : 10 ^ (i + 1) ≡ 10 ^ suc i = ap (λ n. 10 ^ n) one in
-    let le : suc i ≤ 18 = omega arith in
-    let top : 10 ^ suc i ≤ 10 ^ 18 = pow-le-pow_right (omega arith) le in
+    let le : suc i ≤ 20 = omega arith in
+    let top : 10 ^ suc i ≤ 10 ^ 20 = pow-le-pow_right (omega arith) le in
     (omega (arith, pow, at), omega (arith, pow, top))
 
 -- one digit more
@@ -167,9 +167,9 @@ pub record Steps (word : List ℕ) (value i byte : ℕ) : Type 0 where
   pub low : 48 ≤ byte
   pub next : value * 10 + (byte - 48) ≡ digits_value 10 (take (i + 1) word)
   pub small : value * 10 + (byte - 48) < 10 ^ (i + 1)
-  pub fits : value * 10 + (byte - 48) < 10 ^ 18
+  pub fits : value * 10 + (byte - 48) < 10 ^ 20
 
-pub steps : (word : List ℕ) (value i : ℕ) → is_number word ≡ true → length word < 19 → i < length word → value ≡ digits_value 10 (take i word) → value < 10 ^ i → Steps word value i (get_or word i 0)
+pub steps : (word : List ℕ) (value i : ℕ) → is_number word ≡ true → length word < 21 → i < length word → value ≡ digits_value 10 (take i word) → value < 10 ^ i → Steps word value i (get_or word i 0)
 steps word value i e few lt so_far small =
     let digit : is_digit (get_or word i 0) ≡ true = AllPass-from_list_all is_digit word (IsNumber-from word e).digits i 0 lt in
     let v = digit-value (get_or word i 0) digit in
@@ -190,19 +190,14 @@ pub number_of-some : (word : List ℕ) → is_number word ≡ true → number_of
 unfolding number_of
 number_of-some word e = rw e refl
 
-pub capped-short : (word : List ℕ) → digits_value 10 word < 10 ^ 18 → min (digits_value 10 word) (10 ^ 18) ≡ digits_value 10 word
-capped-short word lt = min-eq_left (omega arith)
-
 pub number-none : (word : List ℕ) → is_number word ≡ false → None ≡ option_map capped (number_of word)
 number-none word e = rw (number_of-none word e) refl
 
-pub number-long : (word : List ℕ) → is_number word ≡ true → 18 < length word → Some (10 ^ 18) ≡ option_map capped (number_of word)
+pub number-long : (word : List ℕ) → is_number word ≡ true → 20 < length word → Some (2 ^ 64) ≡ option_map capped (number_of word)
 number-long word e long = rw (number_of-some word e, capped-long word e long) refl
 
-pub number-short : (word : List ℕ) (n : ℕ) → is_number word ≡ true → n ≡ digits_value 10 word → n < 10 ^ 18 → Some n ≡ option_map capped (number_of word)
-number-short word n e value small =
-    let lt : digits_value 10 word < 10 ^ 18 = omega arith in
-    rw (number_of-some word e, capped-short word lt) (ap Some value)
+pub number-short : (word : List ℕ) (n k : ℕ) → is_number word ≡ true → n ≡ digits_value 10 word → k ≡ min n (2 ^ 64) → Some k ≡ option_map capped (number_of word)
+number-short word n k e value kept = rw (number_of-some word e) (ap Some (kept ∙ ap (λ m. min m (2 ^ 64)) value))
 
 -- what a word that writes a number is
 pub number_of-found : (word : List ℕ) (n : ℕ) → number_of word ≡ Some n → (is_number word ≡ true) × (digits_value 10 word ≡ n)

@@ -14,6 +14,6 @@ is_number word = list_all is_digit word && nat_lt 0 (length word) && (nat_lt (le
 unfoldable pub number_of : List ℕ → Option ℕ
 number_of word = if is_number word then Some (digits_value 10 word) else None
 
--- a number as it is kept: one that is too large for every limit stays so
+-- a number as it is kept: every number of 64 bits as it is, and a larger one as one that is out of every limit
 abbrev pub capped : ℕ → ℕ
-capped n = min n (10 ^ 18)
+capped n = min n (2 ^ 64)

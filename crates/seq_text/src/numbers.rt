@@ -4,11 +4,11 @@ ghost use Rattle.std.specs.Option.{option_map};
 ghost use Rattle.std.specs.Str.Parse.{digits_value};
 ghost use Rattle.seq_text.specs.Numbers.{is_digit, is_number, number_of, capped};
 
-/// What a number is read as that is this large or larger. It is above every limit.
-pub const TOO_LARGE: u64 = 1_000_000_000_000_000_000;
+/// What a number is read as that has more than 64 bits. It is out of every limit.
+pub const TOO_LARGE: u128 = 1 << 64;
 
-// The most digits of a number below that.
-const DIGITS: usize = 18;
+// The most digits of a number of 64 bits.
+const DIGITS: usize = 20;
 
 fn is_digit(byte: u8) -> bool
     ensures { result ≡ is_digit byte }
@@ -28,30 +28,31 @@ fn is_number(word: &[u8]) -> bool
     are_digits(word) && !word.is_empty() && (word.len() < 2 || word[0] != b'0')
 }
 
-fn value(word: &[u8]) -> u64
+fn value(word: &[u8]) -> u128
     requires digits { is_number word.now ≡ true }
-    requires few { length word.now < 19 }
+    requires few { length word.now < 21 }
     ensures value { result ≡ digits_value 10 word.now }
-    ensures small { result < 10 ^ 18 }
+    ensures small { result < 10 ^ 20 }
 {
     let mut value = 0;
     for byte in word {
-        value = value * 10 + u64::from(*byte - b'0');
+        value = value * 10 + u128::from(*byte - b'0');
     }
     value
 }
 
-/// The number that a word writes in decimal digits, without sign and without leading zeros, however many there are.
-pub fn number(word: &[u8]) -> Option<u64>
+/// The number that a word writes in decimal digits, without sign and without leading zeros, however many there are. Each
+/// number of 64 bits is read as it is.
+pub fn number(word: &[u8]) -> Option<u128>
     ensures value { result ≡ option_map capped (number_of word.now) }
-    ensures small { IfSome result (λ n. n ≤ 10 ^ 18) }
+    ensures small { IfSome result (λ n. n ≤ 2 ^ 64) }
 {
     if !is_number(word) {
         None
     } else if word.len() > DIGITS {
         Some(TOO_LARGE)
     } else {
-        Some(value(word))
+        Some(value(word).min(TOO_LARGE))
     }
 }
 

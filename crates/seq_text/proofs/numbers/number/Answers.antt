@@ -9,4 +9,4 @@ pub returns-then-word-gt-DIGITS-clause-value : goal.returns-then-word-gt-DIGITS-
 returns-then-word-gt-DIGITS-clause-value c = number-long c.args.word.now (sym c.if-not-is_number.ensures) c.if-word-gt-DIGITS.true
 
 pub returns-else-word-gt-DIGITS-clause-value : goal.returns-else-word-gt-DIGITS-clause-value
-returns-else-word-gt-DIGITS-clause-value c = number-short c.args.word.now _ (sym c.if-not-is_number.ensures) c.value.ensures.value c.value.ensures.small
+returns-else-word-gt-DIGITS-clause-value c = number-short c.args.word.now _ _ (sym c.if-not-is_number.ensures) c.value.ensures.value c.min.ensures
