@@ -1,5 +1,5 @@
 -- What is kept of a statement violates the rules that the statement violates.
-use Rattle.std.proofs.Common.{◌≡◌, ℕ, ◌+◌, ◌%◌, ◌^◌, ◌<◌, ◌≤◌, max, Bool, true, false, not, ◌&&◌, ◌||◌, cond, ltb, leb, eqb, Option, Some, None, List, [], ◌∷◌, length, inl, inr, refl, sym, ap, subst, ◌∙◌, arith, count_by}
+use Rattle.std.proofs.Common.{◌≡◌, ℕ, ◌+◌, ◌%◌, ◌^◌, ◌<◌, ◌≤◌, max, Bool, true, false, not, ◌&&◌, ◌||◌, ltb, leb, eqb, List, [], ◌∷◌, length, inl, inr, refl, sym, ap, subst, ◌∙◌, arith, count_by}
 use Rattle.std.specs.List.{list_any, fold}
 use Rattle.std.specs.Int.{bit_at}
 use Rattle.std.specs.Prelude.{bit_or}
@@ -13,16 +13,17 @@ use Rattle.seq_manifest.specs.declared.heading.Heading.{Heading}
 use Rattle.seq_manifest.specs.declared.heading.Heading.TheVariants.{Version, Processors, Memories, Ios, Cache, Quantum, Journal}
 use Rattle.seq_manifest.specs.Statements.{Statement, heading, segment, process}
 use Rattle.seq_manifest.specs.Drafts.{said_by}
-use Rattle.seq_manifest.specs.Faults.{is_segment, is_in, is_owned, is_misplaced, is_within, is_allowed, is_out_of_limits, is_ascending, is_badly_listed, is_absent, rule_of, some_below}
-use Rattle.seq_manifest.specs.Kept.{with_bit, mask_of, above, end_of, kept}
-use Rattle.seq_manifest.specs.Taking.{kept_misplaced, kept_out, kept_badly, kept_absent, kept_rule, IsParts}
+use Rattle.seq_manifest.specs.Faults.{is_segment, is_in, is_owned, is_misplaced, is_within, is_allowed, is_out_of_limits, is_ascending, is_badly_listed, is_absent, some_below}
+use Rattle.seq_manifest.specs.Kept.{with_bit, mask_of, above, end_of, Kept, kept}
+use Rattle.seq_manifest.specs.Taking.{IsParts}
+use Rattle.seq_manifest.proofs.Table.{kept_misplaced, kept_out, kept_badly, kept_absent}
 use Rattle.seq_manifest.proofs.Sequences.{capped-small, capped-large}
 use Rattle.seq_manifest.proofs.Saying.{unowned-said_by, segments-said_by}
 use Rattle.seq_manifest.proofs.Below.{some_below-true, some_below-from, same_bool}
 
 -- ---- limits
-within-capped : (least most unit n : ℕ) → most < 10 ^ 18 → is_within least most unit (capped n) ≡ is_within least most unit n
-within-capped least most unit n small = elim (cases_lt n (10 ^ 18)) [
+within-capped : (least most unit n : ℕ) → most < 2 ^ 64 → is_within least most unit (capped n) ≡ is_within least most unit n
+within-capped least most unit n small = elim (cases_lt n (2 ^ 64)) [
   | inl lt ↦ ap (is_within least most unit) (capped-small n lt)
   | inr le ↦ outside (capped-large n le) le
 ]
@@ -33,7 +34,7 @@ within-capped least most unit n small = elim (cases_lt n (10 ^ 18)) [
     gone false true u v = refl
     gone false false u v = refl
 
-    outside : capped n ≡ 10 ^ 18 → 10 ^ 18 ≤ n → is_within least most unit (capped n) ≡ is_within least most unit n
+    outside : capped n ≡ 2 ^ 64 → 2 ^ 64 ≤ n → is_within least most unit (capped n) ≡ is_within least most unit n
     outside e le =
         let a : leb (capped n) most ≡ false = lt-leb _ _ (omega arith) in
         let b : leb n most ≡ false = lt-leb _ _ (omega arith) in
@@ -147,13 +148,13 @@ ltb-max m e k = same_bool _ _
     (λ t. let lt : m < max e k = ltb-true _ _ t in elim (cases_lt m e) [ inl le ↦ or_left (ltb m e) (ltb m k) (lt-ltb _ _ le) | inr ge ↦ let above : m < k = omega arith in or_right (ltb m e) (ltb m k) (lt-ltb _ _ above) ])
     (λ t. elim (or_cases (ltb m e) (ltb m k) t) [ inl a ↦ let lt : m < e = ltb-true _ _ a in lt-ltb m (max e k) (omega arith) | inr b ↦ let lt : m < k = ltb-true _ _ b in lt-ltb m (max e k) (omega arith) ])
 
-ltb-capped : (m n : ℕ) → m < 10 ^ 18 → ltb m (capped n + 1) ≡ leb m n
-ltb-capped m n small = elim (cases_lt n (10 ^ 18)) [
+ltb-capped : (m n : ℕ) → m < 2 ^ 64 → ltb m (capped n + 1) ≡ leb m n
+ltb-capped m n small = elim (cases_lt n (2 ^ 64)) [
   | inl lt ↦ let e = capped-small n lt in same_bool _ _ (λ t. let lt' : m < capped n + 1 = ltb-true _ _ t in le-leb _ _ (omega (arith, e))) (λ t. let le' : m ≤ n = leb-true _ _ t in lt-ltb _ _ (omega (arith, e)))
   | inr le ↦ let e = capped-large n le in same_bool _ _ (λ t. le-leb _ _ (omega arith)) (λ t. lt-ltb _ _ (omega (arith, e)))
 ]
 
-ltb-fold : (ns : List ℕ) (e m : ℕ) → m < 10 ^ 18 → ltb m (fold above e ns) ≡ (ltb m e || list_any (λ n. leb m n) ns)
+ltb-fold : (ns : List ℕ) (e m : ℕ) → m < 2 ^ 64 → ltb m (fold above e ns) ≡ (ltb m e || list_any (λ n. leb m n) ns)
 ltb-fold [] e m small = or_off (ltb m e)
   where
     or_off : (b : Bool) → b ≡ (b || false)
@@ -162,7 +163,7 @@ ltb-fold [] e m small = or_off (ltb m e)
 ltb-fold (n ∷ ns) e m small =
     ltb-fold ns (above e n) m small ∙ ap (λ b. b || list_any (λ n. leb m n) ns) (ltb-max m e (capped n + 1) ∙ ap (λ b. ltb m e || b) (ltb-capped m n small)) ∙ or_assoc (ltb m e) (leb m n) (list_any (λ n. leb m n) ns)
 
-pub ltb-end_of : (ns : List ℕ) (m : ℕ) → m < 10 ^ 18 → ltb m (end_of ns) ≡ list_any (λ n. leb m n) ns
+pub ltb-end_of : (ns : List ℕ) (m : ℕ) → m < 2 ^ 64 → ltb m (end_of ns) ≡ list_any (λ n. leb m n) ns
 unfolding end_of
 ltb-end_of ns m small = ltb-fold ns 0 m small ∙ let e : ltb m 0 ≡ false = le-ltb _ _ (omega arith) in rw e refl
 
@@ -192,18 +193,20 @@ unfolding is_absent
 same_absent p (heading h n) parts = refl
 same_absent p (segment size file) parts = refl
 same_absent p (process file lines segments) parts =
-    let small : count_by is_segment (said_by p) < 10 ^ 18 = omega (arith, segments-said_by p parts, parts.segments) in
+    let small : count_by is_segment (said_by p) < 2 ^ 64 = omega (arith, segments-said_by p parts, parts.segments) in
     let a = ltb-end_of segments (count_by is_segment (said_by p)) small in
     let b = ltb-end_of lines 16 (omega arith) in
     ap (λ t. t || ltb 16 (end_of lines)) a ∙ ap (λ t. list_any (λ s. leb (count_by is_segment (said_by p)) s) segments || t) b
 
-abbrev pub chain : Bool → Bool → Bool → Bool → Option ℕ
-chain a b c d = cond a (Some 11) (cond b (Some 12) (cond c (Some 13) (cond d (Some 14) None)))
+-- ---- the same of a statement of which this was kept
+pub misplaced_kept : (before : List Statement) (b : Bool) (k : Kept) → b ≡ kept_misplaced before k → (s : Statement) → k ≡ kept s → b ≡ is_misplaced before s
+misplaced_kept before b k e s f = e ∙ ap (kept_misplaced before) f ∙ same_misplaced before s
 
-pub same_rule : (p : Parts) (s : Statement) → IsParts p → kept_rule (said_by p) (kept s) ≡ rule_of (said_by p) (Some s)
-unfolding kept_rule
-same_rule p s parts =
-    tests _ _ _ _ _ _ _ _ (same_misplaced (said_by p) s) (same_out s) (same_badly p s parts) (same_absent p s parts)
-  where
-    tests : (a b c d a' b' c' d' : Bool) → a ≡ a' → b ≡ b' → c ≡ c' → d ≡ d' → chain a b c d ≡ chain a' b' c' d'
-    tests a b c d a' b' c' d' e f g h = cc
+pub out_kept : (b : Bool) (k : Kept) → b ≡ kept_out k → (s : Statement) → k ≡ kept s → b ≡ is_out_of_limits s
+out_kept b k e s f = e ∙ ap kept_out f ∙ same_out s
+
+pub badly_kept : (p : Parts) (b : Bool) (k : Kept) → IsParts p → b ≡ kept_badly (said_by p) k → (s : Statement) → k ≡ kept s → b ≡ is_badly_listed (said_by p) s
+badly_kept p b k parts e s f = e ∙ ap (kept_badly (said_by p)) f ∙ same_badly p s parts
+
+pub absent_kept : (p : Parts) (b : Bool) (k : Kept) → IsParts p → b ≡ kept_absent (said_by p) k → (s : Statement) → k ≡ kept s → b ≡ is_absent (said_by p) s
+absent_kept p b k parts e s f = e ∙ ap (kept_absent (said_by p)) f ∙ same_absent p s parts

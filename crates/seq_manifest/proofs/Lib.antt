@@ -1,8 +1,8 @@
-pub mod Commas
 pub mod Sequences
 pub mod Forms
 pub mod Saying
 pub mod Below
+pub mod Table
 pub mod Keeping
 pub mod Lines
 pub mod Ones

@@ -6,13 +6,14 @@ use Rattle.std.proofs.Math.Nat.{min-eq_left, min-eq_right}
 use Rattle.std.proofs.lemmas.Bool.{cases_lt, le-ltb}
 use Rattle.std.proofs.lemmas.List.{length_push}
 use Rattle.std.proofs.lemmas.List.Sums.{fold_push}
+use Rattle.seq_text.specs.Cuts.{parts_behind, left}
 use Rattle.seq_text.specs.Numbers.{number_of, capped}
 use Rattle.seq_manifest.specs.declared.lists.NumberList.{NumberList}
 use Rattle.std.specs.Prelude.{codes}
 use Rattle.std.specs.Str.{bytes_eq}
 use Rattle.seq_manifest.specs.Statements.{list_of, numbers_of, cons_number}
 use Rattle.seq_manifest.specs.Faults.{is_ascending}
-use Rattle.seq_manifest.specs.Kept.{with_bit, mask_of, above, end_of, kept_list, parts_after, left}
+use Rattle.seq_manifest.specs.Kept.{with_bit, mask_of, above, end_of, kept_list}
 
 pub and_assoc : (a b c : Bool) → (a && b && c) ≡ (a && (b && c))
 and_assoc true b c = refl
@@ -34,19 +35,19 @@ is_ascending-push (k ∷ l ∷ ns) m n =
     ap (λ b. ltb k l && b) (is_ascending-push (l ∷ ns) m n) ∙ sym (and_assoc (ltb k l) (is_ascending ((l ∷ ns) ++ m ∷ [])) (ltb m n))
 
 -- a number that is too large for every limit is kept as one
-pub capped-small : (n : ℕ) → n < 10 ^ 18 → capped n ≡ n
+pub capped-small : (n : ℕ) → n < 2 ^ 64 → capped n ≡ n
 capped-small n lt = min-eq_left (omega arith)
 
-pub capped-large : (n : ℕ) → 10 ^ 18 ≤ n → capped n ≡ 10 ^ 18
+pub capped-large : (n : ℕ) → 2 ^ 64 ≤ n → capped n ≡ 2 ^ 64
 capped-large n le = min-eq_right le
 
 with_bit-capped : (mask n : ℕ) → with_bit mask (capped n) ≡ with_bit mask n
-with_bit-capped mask n = elim (cases_lt n (10 ^ 18)) [
+with_bit-capped mask n = elim (cases_lt n (2 ^ 64)) [
   | inl lt ↦ ap (with_bit mask) (capped-small n lt)
   | inr le ↦ large (capped-large n le) le
 ]
   where
-    large : capped n ≡ 10 ^ 18 → 10 ^ 18 ≤ n → with_bit mask (capped n) ≡ with_bit mask n
+    large : capped n ≡ 2 ^ 64 → 2 ^ 64 ≤ n → with_bit mask (capped n) ≡ with_bit mask n
     large e le =
         let a : ltb (capped n) 16 ≡ false = le-ltb _ _ (omega arith) in
         let b : ltb n 16 ≡ false = le-ltb _ _ (omega arith) in
@@ -102,7 +103,7 @@ pub record IsSoFar (word part : List ℕ) (rest : Option (List ℕ)) (list : Num
   pub last : ℕ
   pub number : number_of part ≡ Some last
   pub list_is : list ≡ kept_list (front ++ last ∷ [])
-  pub whole : numbers_of (slice_split (λ byte. eqb byte 44) word) ≡ prepend (front ++ last ∷ []) (numbers_of (parts_after rest))
+  pub whole : numbers_of (slice_split (λ byte. eqb byte 44) word) ≡ prepend (front ++ last ∷ []) (numbers_of (parts_behind 44 rest))
   pub count : list.count + left rest ≤ length word + 1
 
 -- a number that is read is one that is written
@@ -117,7 +118,7 @@ cons-prepend n (Some ns) = refl
 numbers_of-parts : (parts : List (List ℕ)) (part : List ℕ) (others : List (List ℕ)) (n : ℕ) → parts ≡ part ∷ others → number_of part ≡ Some n → numbers_of parts ≡ cons_number (Some n) (numbers_of others)
 numbers_of-parts parts part others n e f = ap numbers_of e ∙ ap (λ o. cons_number o (numbers_of others)) f
 
-pub so_far-first : (word part : List ℕ) (rest : Option (List ℕ)) (list : NumberList) (k : ℕ) → slice_split (λ byte. eqb byte 44) word ≡ part ∷ parts_after rest → Some k ≡ option_map capped (number_of part)
+pub so_far-first : (word part : List ℕ) (rest : Option (List ℕ)) (list : NumberList) (k : ℕ) → slice_split (λ byte. eqb byte 44) word ≡ part ∷ parts_behind 44 rest → Some k ≡ option_map capped (number_of part)
     → list.count ≡ 0 + 1 → list.ascends ≡ true → list.mask ≡ with_bit 0 k → list.end ≡ max 0 (k + 1) → left rest ≤ length word → IsSoFar word part rest list
 so_far-first word part rest list k cut read count ascends mask end shorter =
     let n = capped_some (number_of part) k read in
@@ -126,12 +127,12 @@ so_far-first word part rest list k cut read count ascends mask end shorter =
       last = n.0;
       number = n.1;
       list_is = kept_list-first list n.0 k n.2 count ascends mask end;
-      whole = numbers_of-parts _ part (parts_after rest) n.0 cut n.1 ∙ cons-prepend n.0 (numbers_of (parts_after rest));
+      whole = numbers_of-parts _ part (parts_behind 44 rest) n.0 cut n.1 ∙ cons-prepend n.0 (numbers_of (parts_behind 44 rest));
       count = omega (arith, count, shorter);
     }
 
 pub so_far-next : (word part after next : List ℕ) (behind : Option (List ℕ)) (list list' : NumberList) (k : ℕ) (b : Bool) → IsSoFar word part (Some after) list
-    → slice_split (λ byte. eqb byte 44) after ≡ next ∷ parts_after behind → Some k ≡ option_map capped (number_of next)
+    → slice_split (λ byte. eqb byte 44) after ≡ next ∷ parts_behind 44 behind → Some k ≡ option_map capped (number_of next)
     → ((m n : ℕ) → number_of part ≡ Some m → number_of next ≡ Some n → b ≡ ltb m n)
     → list'.count ≡ list.count + 1 → list'.ascends ≡ (list.ascends && b) → list'.mask ≡ with_bit list.mask k → list'.end ≡ max list.end (k + 1) → left behind ≤ length after → IsSoFar word next behind list'
 so_far-next word part after next behind list list' k b so_far cut read below count ascends mask end shorter =
@@ -141,7 +142,7 @@ so_far-next word part after next behind list list' k b so_far cut read below cou
       last = n.0;
       number = n.1;
       list_is = kept_list-push list list' so_far.front so_far.last n.0 k b so_far.list_is n.2 (below so_far.last n.0 so_far.number n.1) count ascends mask end;
-      whole = so_far.whole ∙ ap (prepend (so_far.front ++ so_far.last ∷ [])) (numbers_of-parts _ next (parts_after behind) n.0 cut n.1) ∙ prepend-cons (so_far.front ++ so_far.last ∷ []) n.0 (numbers_of (parts_after behind));
+      whole = so_far.whole ∙ ap (prepend (so_far.front ++ so_far.last ∷ [])) (numbers_of-parts _ next (parts_behind 44 behind) n.0 cut n.1) ∙ prepend-cons (so_far.front ++ so_far.last ∷ []) n.0 (numbers_of (parts_behind 44 behind));
       count = omega (arith, count, shorter, so_far.count);
     }
 

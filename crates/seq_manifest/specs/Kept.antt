@@ -1,6 +1,5 @@
 -- What the reader keeps of a statement: numbers that are too large for every limit as one, and lists as masks.
-use Rattle.std.specs.Prelude.{ℕ, ◌+◌, ◌^◌, max, ◌==◌, nat_lt, if◌then◌else◌, Option, Some, None, List, [], length, fold, bit_or}
-use Rattle.std.specs.List.{slice_split}
+use Rattle.std.specs.Prelude.{ℕ, ◌+◌, ◌^◌, max, nat_lt, if◌then◌else◌, List, length, fold, bit_or}
 use Rattle.seq_text.specs.Numbers.{capped}
 use Rattle.seq_manifest.specs.declared.heading.Heading.{Heading}
 use Rattle.seq_manifest.specs.declared.lists.NumberList.{NumberList}
@@ -41,13 +40,3 @@ abbrev pub seen : Stated → Kept
 seen (stated.Heading h n) = kept_heading h n
 seen (stated.Segment size file) = kept_segment size file.now
 seen (stated.Process file lines segments) = kept_process file.now lines segments
-
--- the parts of a list that are left behind a comma, if there is one
-abbrev pub parts_after : Option (List ℕ) → List (List ℕ)
-parts_after None = []
-parts_after (Some rest) = slice_split (λ byte. byte == 44) rest
-
--- what is left behind the part that was read: no byte without a comma
-abbrev pub left : Option (List ℕ) → ℕ
-left None = 0
-left (Some rest) = length rest + 1

@@ -17,7 +17,7 @@ pub enum Heading {
 }
 
 /// Whether a number lies between two others, both included, and is a multiple of a unit.
-pub fn is_within(least: u64, most: u64, unit: u64, number: u64) -> bool
+pub fn is_within(least: u128, most: u128, unit: u128, number: u128) -> bool
     requires { 0 < unit }
     ensures { result ≡ is_within least most unit number }
 {
@@ -63,14 +63,14 @@ pub fn place_of(heading: Heading) -> usize
 }
 
 /// Whether a number is within the limits of a first line.
-pub fn is_allowed(heading: Heading, number: u64) -> bool
+pub fn is_allowed(heading: Heading, number: u128) -> bool
     ensures { result ≡ is_allowed heading number }
 {
     match heading {
         Heading::Version => is_within(1, 1, 1, number),
-        Heading::Processors => is_within(1, MOST_PROCESSORS as u64, 1, number),
-        Heading::Memories => is_within(2, MOST_MEMORIES as u64, 1, number),
-        Heading::Ios => is_within(1, MOST_IOS as u64, 1, number),
+        Heading::Processors => is_within(1, MOST_PROCESSORS as u128, 1, number),
+        Heading::Memories => is_within(2, MOST_MEMORIES as u128, 1, number),
+        Heading::Ios => is_within(1, MOST_IOS as u128, 1, number),
         Heading::Cache => is_within(16, 256, 1, number),
         Heading::Quantum => is_within(1, 10_000, 1, number),
         Heading::Journal => is_within(32, 65_536, 32, number),

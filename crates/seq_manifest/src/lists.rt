@@ -1,10 +1,10 @@
-ghost use Rattle.std.specs.Prelude.{◌≡◌, ◌<◌, ◌≤◌, ◌+◌, ◌^◌, ◌&&◌, ◌==◌, ◌∷◌, Bool, length, max, position, IfSome};
+ghost use Rattle.std.specs.Prelude.{◌≡◌, ◌<◌, ◌+◌, ◌^◌, ◌&&◌, ◌==◌, Bool, max};
 ghost use Rattle.std.specs.List.{slice_split};
 ghost use Rattle.std.specs.Option.{option_map};
 ghost use Rattle.seq_manifest.specs.Statements.{list_of, numbers_of};
-ghost use Rattle.seq_manifest.specs.Kept.{kept_list, with_bit, parts_after, left};
+ghost use Rattle.seq_manifest.specs.Kept.{kept_list, with_bit};
 
-use seq_text::{is_below, number};
+use seq_text::{cut_at, is_below, number};
 
 /// A list of numbers, as far as the rules look at it.
 #[derive(Clone, Copy)]
@@ -16,7 +16,7 @@ pub struct NumberList {
     /// Bit n says that n is there, for n below 16.
     pub mask: u16,
     /// One above the greatest number, as far as it is kept. 0 where there is none.
-    pub end: u64,
+    pub end: u128,
 }
 
 const NO_NUMBER: NumberList = NumberList {
@@ -26,7 +26,7 @@ const NO_NUMBER: NumberList = NumberList {
     end: 0,
 };
 
-fn with_bit(mask: u16, number: u64) -> u16
+fn with_bit(mask: u16, number: u128) -> u16
     ensures { result ≡ with_bit mask number }
 {
     if number < 16 {
@@ -38,9 +38,9 @@ fn with_bit(mask: u16, number: u64) -> u16
 
 impl NumberList {
     // With one more number at its end, which ascends as it is told.
-    fn with(self, number: u64, ascends: bool) -> NumberList
+    fn with(self, number: u128, ascends: bool) -> NumberList
         requires few { self.count + 1 < 2 ^ 64 }
-        requires small { number < 2 ^ 63 }
+        requires small { number < 2 ^ 127 }
         ensures count { result.count ≡ self.count + 1 }
         ensures ascends { result.ascends ≡ (self.ascends && ascends) }
         ensures mask { result.mask ≡ with_bit self.mask number }
@@ -55,32 +55,14 @@ impl NumberList {
     }
 }
 
-fn comma(word: &[u8]) -> Option<usize>
-    ensures value { result ≡ position (λ byte. byte == 44) word.now }
-    ensures bound { IfSome result (λ at. at < length word.now) }
-{
-    word.iter().position(|byte| *byte == b',')
-}
-
-// What stands before the first comma, and what follows that comma, if there is one.
-fn next_part(word: &[u8]) -> (&[u8], Option<&[u8]>)
-    ensures parts { slice_split (λ byte. byte == 44) word.now ≡ result.0.now ∷ parts_after (option_map (λ rest. rest.now) result.1) }
-    ensures shorter { left (option_map (λ rest. rest.now) result.1) ≤ length word.now }
-{
-    match comma(word) {
-        None => (word, None),
-        Some(end) => (&word[..end], Some(word.split_at(end + 1).1)),
-    }
-}
-
 // Numbers between commas.
 fn numbers(word: &[u8]) -> Option<NumberList>
     ensures { result ≡ option_map kept_list (numbers_of (slice_split (λ byte. byte == 44) word.now)) }
 {
-    let (mut part, mut rest) = next_part(word);
+    let (mut part, mut rest) = cut_at(b',', word);
     let mut list = NO_NUMBER.with(number(part)?, true);
     'parts: while let Some(after) = rest {
-        let (next, behind) = next_part(after);
+        let (next, behind) = cut_at(b',', after);
         list = list.with(number(next)?, is_below(part, next));
         part = next;
         rest = behind;

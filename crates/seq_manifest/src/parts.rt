@@ -1,10 +1,11 @@
 ghost use Rattle.std.specs.Prelude.{◌≡◌, ◌<◌, ◌^◌, ◌+◌, ◌&&◌, false, true, not, length, count_by, nat_lt, OnOk, IfOk, [], Some, None};
 ghost use Rattle.std.specs.List.{list_any};
 ghost use Rattle.seq_words.specs.Masks.{has_bit};
+ghost use Rattle.seq_manifest.specs.Statements.{Statement as Said};
 ghost use Rattle.seq_manifest.specs.Drafts.{said_by};
-ghost use Rattle.seq_manifest.specs.Faults.{is_owned, is_process, is_segment, some_below, has_gap};
-ghost use Rattle.seq_manifest.specs.Kept.{seen, kept_segment, kept_process};
-ghost use Rattle.seq_manifest.specs.Taking.{IsParts, kept_misplaced, kept_out, kept_badly, kept_absent, kept_rule, with_kept};
+ghost use Rattle.seq_manifest.specs.Faults.{is_owned, is_process, is_segment, is_misplaced, is_out_of_limits, is_badly_listed, is_absent, rule_of, some_below, has_gap};
+ghost use Rattle.seq_manifest.specs.Kept.{kept, seen, kept_segment, kept_process};
+ghost use Rattle.seq_manifest.specs.Taking.{IsParts, IsSmall, with_kept};
 
 use crate::heading::{is_allowed, is_within, place_of};
 use crate::lists::NumberList;
@@ -34,7 +35,8 @@ fn has_owner(processes: &[ProcessDesc], line: u8) -> bool
 
 /// Whether a number of a statement is out of its limits.
 fn is_out_of_limits(statement: &Statement) -> bool
-    ensures { result ≡ kept_out (seen statement.now) }
+    ensures rule { (s : Said) → seen statement.now ≡ kept s → result ≡ is_out_of_limits s }
+    ensures small { result ≡ false → IsSmall (seen statement.now) }
 {
     match *statement {
         Statement::Heading(heading, number) => !is_allowed(heading, number),
@@ -91,7 +93,7 @@ impl Parts {
 
     fn is_misplaced(&self, statement: &Statement) -> bool
         requires { IsParts self.now }
-        ensures { result ≡ kept_misplaced (said_by self.now) (seen statement.now) }
+        ensures { (s : Said) → seen statement.now ≡ kept s → result ≡ is_misplaced (said_by self.now) s }
     {
         match *statement {
             Statement::Heading(heading, _) => self.count() != place_of(heading),
@@ -124,7 +126,7 @@ impl Parts {
 
     fn is_badly_listed(&self, statement: &Statement) -> bool
         requires { IsParts self.now }
-        ensures { result ≡ kept_badly (said_by self.now) (seen statement.now) }
+        ensures { (s : Said) → seen statement.now ≡ kept s → result ≡ is_badly_listed (said_by self.now) s }
     {
         match *statement {
             Statement::Process(_, lines, segments) => {
@@ -137,11 +139,11 @@ impl Parts {
 
     fn is_absent(&self, statement: &Statement) -> bool
         requires { IsParts self.now }
-        ensures { result ≡ kept_absent (said_by self.now) (seen statement.now) }
+        ensures { (s : Said) → seen statement.now ≡ kept s → result ≡ is_absent (said_by self.now) s }
     {
         match *statement {
             Statement::Process(_, lines, segments) => {
-                segments.end > self.segment_count() as u64 || lines.end > 16
+                segments.end > self.segment_count() as u128 || lines.end > 16
             }
             Statement::Heading(_, _) => false,
             Statement::Segment(_, _) => false,
@@ -149,11 +151,10 @@ impl Parts {
     }
 
     /// The least rule that a statement violates behind those that made these parts.
-    #[tactic(auto, unfolding(crate::specs::Taking::kept_rule))]
     pub fn rule(&self, statement: &Statement) -> Option<u16>
         requires { IsParts self.now }
-        ensures rule { result ≡ kept_rule (said_by self.now) (seen statement.now) }
-        ensures limits { result ≡ None → kept_out (seen statement.now) ≡ false }
+        ensures rule { (s : Said) → seen statement.now ≡ kept s → result ≡ rule_of (said_by self.now) (Some s) }
+        ensures small { result ≡ None → IsSmall (seen statement.now) }
     {
         if self.is_misplaced(statement) {
             Some(MISPLACED)
@@ -213,7 +214,7 @@ impl Parts {
 
     /// Takes a statement whose numbers are within their limits.
     pub fn push(&mut self, alloc: Global, statement: &Statement) -> Result<(), NoMemory>
-        requires { kept_out (seen statement.now) ≡ false }
+        requires { IsSmall (seen statement.now) }
         ensures { OnOk result (self.new ≡ with_kept self.old (seen statement.now)) }
     {
         match *statement {

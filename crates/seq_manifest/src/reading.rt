@@ -1,10 +1,11 @@
 ghost use Rattle.std.specs.Prelude.{◌≡◌, ◌==◌, ℕ, slice_index, Some, None, OnOk, IfOk, ◌⊎◌};
 ghost use Rattle.seq_text.specs.Words.{words_of};
+ghost use Rattle.seq_manifest.specs.Statements.{Statement as Said};
 ghost use Rattle.seq_manifest.specs.Drafts.{said_by, Describes};
-ghost use Rattle.seq_manifest.specs.Faults.{line_rule, with_line, first_fault};
-ghost use Rattle.seq_manifest.specs.Kept.{seen};
+ghost use Rattle.seq_manifest.specs.Faults.{rule_of, line_rule, with_line, first_fault};
+ghost use Rattle.seq_manifest.specs.Kept.{kept, seen};
 ghost use Rattle.seq_manifest.specs.Errors.{error_at};
-ghost use Rattle.seq_manifest.specs.Taking.{IsParts, kept_rule, with_kept};
+ghost use Rattle.seq_manifest.specs.Taking.{IsParts, with_kept};
 
 use crate::Draft;
 use crate::parts::Parts;
@@ -48,9 +49,9 @@ fn is_comment(word: &[u8]) -> bool
 impl Parts {
     fn take(&mut self, alloc: Global, statement: &Statement) -> Result<(), LineError>
         requires { IsParts self.old }
-        ensures rule { (rule : ℕ) → result ≡ Err (LineError.Broken rule) →
-            kept_rule (said_by self.old) (seen statement.now) ≡ Some rule }
-        ensures none { OnOk result (kept_rule (said_by self.old) (seen statement.now) ≡ None) }
+        ensures rule { (s : Said) (rule : ℕ) → seen statement.now ≡ kept s → result ≡ Err (LineError.Broken rule) →
+            rule_of (said_by self.old) (Some s) ≡ Some rule }
+        ensures none { (s : Said) → seen statement.now ≡ kept s → OnOk result (rule_of (said_by self.old) (Some s) ≡ None) }
         ensures taken { OnOk result (self.new ≡ with_kept self.old (seen statement.now)) }
     {
         if let Some(rule) = self.rule(statement) {

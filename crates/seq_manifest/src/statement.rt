@@ -14,9 +14,9 @@ use std::str;
 #[derive(Clone, Copy)]
 pub enum Statement<'a> {
     /// A first line, with its number.
-    Heading(Heading, u64),
+    Heading(Heading, u128),
     /// A segment: its size, and the name of its file, empty for none.
-    Segment(u64, &'a [u8]),
+    Segment(u128, &'a [u8]),
     /// A process: the name of its file, its lines and its segments.
     Process(&'a [u8], NumberList, NumberList),
 }

@@ -16,25 +16,25 @@ above least most n lt =
     let no : (leb least n && leb n most) ≡ false = and-false (leb least n) (leb n most) (lt-leb n most lt) in
     rw no refl
 
-some_within : (least most n : ℕ) → most < 10 ^ 18 → if_within least most (Some (capped n)) ≡ if_within least most (Some n)
-some_within least most n lt = elim (cases_lt n (10 ^ 18)) [
+some_within : (least most n : ℕ) → most < 2 ^ 64 → if_within least most (Some (capped n)) ≡ if_within least most (Some n)
+some_within least most n lt = elim (cases_lt n (2 ^ 64)) [
   | inl small ↦ ap (λ m. if_within least most (Some m)) (min-eq_left (omega arith))
-  | inr large ↦ ap (λ m. if_within least most (Some m)) (min-eq_right large) ∙ above least most (10 ^ 18) lt ∙ sym (above least most n (omega arith))
+  | inr large ↦ ap (λ m. if_within least most (Some m)) (min-eq_right large) ∙ above least most (2 ^ 64) lt ∙ sym (above least most n (omega arith))
 ]
 
-same_within : (least most : ℕ) (p o : Option ℕ) → most < 10 ^ 18 → o ≡ option_map capped p → if_within least most o ≡ if_within least most p
+same_within : (least most : ℕ) (p o : Option ℕ) → most < 2 ^ 64 → o ≡ option_map capped p → if_within least most o ≡ if_within least most p
 same_within least most None o lt e = ap (if_within least most) e
 same_within least most (Some n) o lt e = ap (if_within least most) e ∙ some_within least most n lt
 
-pub within_is : (least most : ℕ) (word : List ℕ) (o : Option ℕ) → most < 10 ^ 18 → o ≡ option_map capped (number_of word) → if_within least most o ≡ number_within least most word
+pub within_is : (least most : ℕ) (word : List ℕ) (o : Option ℕ) → most < 2 ^ 64 → o ≡ option_map capped (number_of word) → if_within least most o ≡ number_within least most word
 unfolding number_within
 within_is least most word o lt e = same_within least most (number_of word) o lt e
 
 same_line : (n : ℕ) → line_numbered (capped n) ≡ line_numbered n
 same_line n = ap (λ (m : ℕ). let l : LineNo = record { 0 = m } in l) (twice n)
   where
-    twice : (n : ℕ) → min (min n (10 ^ 18)) 255 ≡ min n 255
-    twice n = elim (cases_lt n (10 ^ 18)) [
+    twice : (n : ℕ) → min (min n (2 ^ 64)) 255 ≡ min n 255
+    twice n = elim (cases_lt n (2 ^ 64)) [
       | inl small ↦ ap (λ m. min m 255) (min-eq_left (omega arith))
       | inr large ↦ ap (λ m. min m 255) (min-eq_right large) ∙ sym (min-eq_right (omega arith))
     ]

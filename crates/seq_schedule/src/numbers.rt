@@ -8,15 +8,15 @@ use seq_text::number;
 use seq_words::{Bytes, LineNo, NoMemory};
 use std::alloc::Global;
 
-fn if_within(least: u64, most: u64, number: Option<u64>) -> Option<u64>
+fn if_within(least: u64, most: u64, number: Option<u128>) -> Option<u64>
     ensures value { result ≡ if_within least most number }
     ensures within { IfSome result (λ n. n ≤ most) }
 {
     match number {
         None => None,
         Some(number) => {
-            if least <= number && number <= most {
-                Some(number)
+            if u128::from(least) <= number && number <= u128::from(most) {
+                Some(number as u64)
             } else {
                 None
             }
@@ -27,14 +27,13 @@ fn if_within(least: u64, most: u64, number: Option<u64>) -> Option<u64>
 /// The number that a word writes, where it lies between two others, both included.
 #[tactic(auto, using(crate::proofs::Capped::within_is))]
 pub fn number_within(least: u64, most: u64, word: &[u8]) -> Option<u64>
-    requires { most < 10 ^ 18 }
     ensures value { result ≡ number_within least most word.now }
     ensures within { IfSome result (λ n. n ≤ most) }
 {
     if_within(least, most, number(word))
 }
 
-fn line_with(number: Option<u64>) -> Option<LineNo>
+fn line_with(number: Option<u128>) -> Option<LineNo>
     ensures { result ≡ option_map line_numbered number }
 {
     match number {

@@ -1,5 +1,5 @@
 use Rattle.std.specs.Option.{option_map}
-use Rattle.seq_manifest.specs.Kept.{left}
+use Rattle.seq_text.specs.Cuts.{left}
 use Rattle.seq_manifest.proofs.Sequences.{IsSoFar}
 use Rattle.seq_manifest.proofs.lists.numbers.Given as goal
 

@@ -1,9 +1,0 @@
-use Rattle.std.proofs.Common.{sym, refl}
-use Rattle.seq_manifest.proofs.Commas.{parts-none, parts-some}
-use Rattle.seq_manifest.proofs.lists.next_part.Goals as goal
-
-pub returns-in-None-clause-parts : goal.returns-in-None-clause-parts
-returns-in-None-clause-parts c = parts-none c.args.word.now (sym c.in-None.ensures.value)
-
-pub returns-in-Some-clause-parts : goal.returns-in-Some-clause-parts
-returns-in-Some-clause-parts c = parts-some c.args.word.now _ _ c.in-Some.end (sym c.in-Some.ensures.value) refl c.split_at.ensures.back
