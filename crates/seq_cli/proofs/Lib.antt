@@ -1,6 +1,6 @@
-pub mod Texts
 pub mod Openings
-pub mod Described
+pub mod Scheduled
+pub mod Completing
 pub mod Sends
 pub mod Going
 pub mod Runs

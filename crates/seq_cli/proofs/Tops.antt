@@ -4,6 +4,7 @@ use Rattle.std.proofs.lemmas.Bool.{cases_eq, ne_eqb}
 use Rattle.seq_words.specs.Description.{IsDescription}
 use Rattle.seq_words.specs.declared.description.MachineDesc.{MachineDesc}
 use Rattle.seq_words.specs.declared.events.Entry.{Entry}
+use Rattle.seq_schedule.specs.declared.script.Item.{Item}
 use Rattle.seq_cli.specs.declared.turns.Event.{Event}
 use Rattle.seq_words.specs.declared.names.LineNo.{LineNo}
 use Rattle.seq_shelf.specs.Told.{LineView, Map}
@@ -11,7 +12,9 @@ use Rattle.seq_flat.specs.Run.{IsPrefix, output}
 use Rattle.seq_cli.specs.declared.status.Status.{Status}
 use Rattle.seq_cli.specs.declared.status.Status.TheVariants.{Done, Usage, Refused, Absent, ShelfFault, ChronicleFault, LineFault, NoMemory}
 use Rattle.seq_shelf.specs.Rows.{on_line}
-use Rattle.seq_cli.specs.Opening.{Opening, ready, Opens, AsksRun}
+use Rattle.seq_cli.specs.Files.{Opening, ready}
+use Rattle.seq_cli.specs.Opening.{Opens, AsksRun}
+use Rattle.seq_cli.specs.Schedule.{plain_events}
 use Rattle.seq_cli.specs.Endings.{Answers}
 use Rattle.seq_cli.specs.Ran.{Ran, MadeUnder, machine_at}
 use Rattle.seq_cli.specs.Top.{Releases}
@@ -35,11 +38,11 @@ prefix_on l xs ys p = elim (cases_eq l 0) [
 ]
 
 -- a run was made
-pub releases_run : (words : List (List ℕ)) (map : Option Map) (status : Status) (desc : MachineDesc) (events : List Event) (before after : Option (List Entry)) (old new : List LineView)
-    → ((m : Map) → map ≡ Some m → Opens words m None (ready desc events)) → IsDescription desc → Ran desc events status before after old new → Releases words map before after old new
-releases_run words map status desc events before after old new asked described ran =
-    let m = machine_at desc events ran.made in
-    let s = sound_at desc events ran.made in
+pub releases_run : (words : List (List ℕ)) (map : Option Map) (status : Status) (desc : MachineDesc) (items : List Item) (files : List (List ℕ)) (before after : Option (List Entry)) (old new : List LineView)
+    → ((m : Map) → map ≡ Some m → Opens words m None (ready desc items files)) → IsDescription desc → Ran desc (plain_events items) status before after old new → Releases words map before after old new
+releases_run words map status desc items files before after old new asked described ran =
+    let m = machine_at desc (plain_events items) ran.made in
+    let s = sound_at desc (plain_events items) ran.made in
     record {
       history = m.pairs;
       appended = ran.pairs;
@@ -47,7 +50,8 @@ releases_run words map status desc events before after old new asked described r
       accepted = ran.bytes;
       right = inr (record {
         desc = desc;
-        events = events;
+        items = items;
+        files = files;
         asked = asked;
         described = described;
         right = (m.flat, s.run, λ l. prefix_on l m.sent (output m.flat l) (λ zero. subst (λ k. IsPrefix m.sent (output m.flat k)) (sym zero) s.sent));

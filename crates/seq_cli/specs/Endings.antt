@@ -1,7 +1,8 @@
 -- How a command ends, by its status.
 use Rattle.seq_cli.specs.declared.status.Status.{Status}
 use Rattle.seq_cli.specs.declared.status.Status.TheVariants.{Done, Usage, Refused, Absent, ShelfFault, ChronicleFault, LineFault, NoMemory}
-use Rattle.seq_cli.specs.Opening.{Opening, usage, absent, refused, faulty, AsksRun}
+use Rattle.seq_cli.specs.Files.{Opening, usage, absent, refused, faulty}
+use Rattle.seq_cli.specs.Opening.{AsksRun}
 
 pub data Ending : Type 0 where
   -- before any run, as the words or the files ask for it

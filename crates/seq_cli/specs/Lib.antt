@@ -1,4 +1,5 @@
-pub mod Numbers
+pub mod Files
+pub mod Parts
 pub mod Schedule
 pub mod Opening
 pub mod Endings
@@ -6,3 +7,4 @@ pub mod Loads
 pub mod Plain
 pub mod Ran
 pub mod Top
+pub mod Numbers

@@ -3,12 +3,14 @@ use Rattle.std.specs.Prelude.{◌≡◌, ◌⊎◌, ℕ, Option, Some, None, Lis
 use Rattle.seq_words.specs.Description.{IsDescription}
 use Rattle.seq_words.specs.declared.description.MachineDesc.{MachineDesc}
 use Rattle.seq_words.specs.declared.events.Entry.{Entry}
-use Rattle.seq_cli.specs.declared.turns.Event.{Event}
+use Rattle.seq_schedule.specs.declared.script.Item.{Item}
 use Rattle.seq_shelf.specs.Told.{Grows, LineView, Map}
 use Rattle.seq_flat.specs.Run.{IsRight}
 use Rattle.seq_cli.specs.declared.status.Status.{Status}
 use Rattle.seq_shelf.specs.Rows.{AllAccept}
-use Rattle.seq_cli.specs.Opening.{ready, Opens}
+use Rattle.seq_cli.specs.Files.{ready}
+use Rattle.seq_cli.specs.Opening.{Opens}
+use Rattle.seq_cli.specs.Schedule.{plain_events}
 use Rattle.seq_cli.specs.Endings.{Answers, IsEarly}
 use Rattle.seq_cli.specs.Ran.{Ran}
 
@@ -21,8 +23,9 @@ pub record IsNothing (history : List Entry) (released : ℕ → List ℕ) : Type
 -- is defined, and the bytes released on each line are a prefix of that line's output.
 pub record IsRightFor (words : List (List ℕ)) (map : Option Map) (history : List Entry) (released : ℕ → List ℕ) : Type 0 where
   pub desc : MachineDesc
-  pub events : List Event
-  pub asked : (m : Map) → map ≡ Some m → Opens words m None (ready desc events)
+  pub items : List Item
+  pub files : List (List ℕ)
+  pub asked : (m : Map) → map ≡ Some m → Opens words m None (ready desc items files)
   pub described : IsDescription desc
   pub right : IsRight desc [] history released
 
@@ -43,9 +46,10 @@ pub record Idle (status : Status) (before after : Option (List Entry)) (old new 
 -- the run that the words and the shelf's files ask for
 pub record RunsAsked (words : List (List ℕ)) (map : Option Map) (status : Status) (before after : Option (List Entry)) (old new : List LineView) : Type 0 where
   pub desc : MachineDesc
-  pub events : List Event
-  pub asked : (m : Map) → map ≡ Some m → Opens words m None (ready desc events)
-  pub ran : Ran desc events status before after old new
+  pub items : List Item
+  pub files : List (List ℕ)
+  pub asked : (m : Map) → map ≡ Some m → Opens words m None (ready desc items files)
+  pub ran : Ran desc (plain_events items) status before after old new
 
 -- The history and the bytes are exactly those of the two turn rules, for the events that the status says were made.
 abbrev pub Runs : List (List ℕ) → Option Map → Status → Option (List Entry) → Option (List Entry) → List LineView → List LineView → Type 0

@@ -1,8 +1,10 @@
 //! The top call of the program: what the words and the files ask for, the run, and the status with which it ends.
 #![tactic(auto)]
 
+mod files;
 mod laws;
 mod opening;
+mod parts;
 mod plain;
 mod schedule;
 mod status;
@@ -12,3 +14,6 @@ mod turns;
 pub use laws::one_opening;
 pub use status::{Status, number};
 pub use top::{add_line, sequoia};
+
+#[cfg(test)]
+mod tests;

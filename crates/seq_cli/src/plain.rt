@@ -52,6 +52,8 @@ impl PlainMachine {
         ensures pairs { (pe : _) → OnOk result (Grows (C.chronicle chronicle.old).told (C.chronicle chronicle.new).told (turn_pairs self.old.desc self.old.flat.state (Event.Processor pe))) }
         ensures err_pairs { OnErr result (Grows (C.chronicle chronicle.old).told (C.chronicle chronicle.new).told []) }
         ensures faults { (C.chronicle chronicle.old).faults ≤ (C.chronicle chronicle.new).faults }
+        ensures ok_faults { OnOk result ((C.chronicle chronicle.new).faults ≡ (C.chronicle chronicle.old).faults) }
+        ensures refusals { (C.chronicle chronicle.old).refusals ≤ (C.chronicle chronicle.new).refusals }
         ensures kinds { IfErr result (λ s. (s ≡ Status.ChronicleFault) ⊎ (s ≡ Status.NoMemory)) }
         ensures cause { IsErrOf result Status.ChronicleFault → Rose (C.chronicle chronicle.old).faults (C.chronicle chronicle.new).faults }
 
@@ -120,6 +122,8 @@ impl PlainMachine {
 
         ensures marks { marks lines.new.items ≡ marks lines.old.items }
         ensures faults { (C.chronicle chronicle.old).faults ≤ (C.chronicle chronicle.new).faults }
+        ensures ok_faults { OnOk result ((C.chronicle chronicle.new).faults ≡ (C.chronicle chronicle.old).faults) }
+        ensures refusals { (C.chronicle chronicle.old).refusals ≤ (C.chronicle chronicle.new).refusals }
         ensures chronicle { IsErrOf result Status.ChronicleFault → Rose (C.chronicle chronicle.old).faults (C.chronicle chronicle.new).faults }
         ensures chronicle_memory { IsErrOf result Status.NoMemory → (C.chronicle chronicle.new ≡ C.chronicle chronicle.old)
             ⊎ Rose (C.chronicle chronicle.old).refusals (C.chronicle chronicle.new).refusals }
@@ -146,6 +150,10 @@ impl PlainMachine {
             (views line lines.old.items) (views line lines.new.items) }
         ensures marks { marks lines.new.items ≡ marks lines.old.items }
         ensures chronicle { result ≡ Status.ChronicleFault → Rose (C.chronicle chronicle.old).faults (C.chronicle chronicle.new).faults }
+
+        // A fault of the chronicle isn't want of memory: no fault came, or memory was refused to it.
+        ensures memory { result ≡ Status.NoMemory → ((C.chronicle chronicle.new).faults ≡ (C.chronicle chronicle.old).faults)
+            ⊎ Rose (C.chronicle chronicle.old).refusals (C.chronicle chronicle.new).refusals }
         ensures line { (l : _) → result ≡ Status.LineFault l →
             Rose (line_at (views line lines.old.items) l.0).faults (line_at (views line lines.new.items) l.0).faults }
     {

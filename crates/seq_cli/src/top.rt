@@ -10,13 +10,14 @@ ghost use Rattle.seq_cli.specs.Top.{Releases, Runs, IsAnswered};
 use crate::Status;
 use crate::opening::{open, read_form};
 use crate::plain::PlainMachine;
+use crate::schedule::plain_events;
 use seq_shelf::{Chronicle, Line, Outlet, Shelf, Sink};
 use seq_words::NoMemory;
 use std::alloc::Global;
 
 /// Does what the words ask for: it loads the files, runs the machine, and answers how that ended.
 ///
-/// `words` are those after the program's name. The files are looked at in their order: the machine, its image, the
+/// `words` are those after the program's name. The files are looked at in their order: the machine, its parts, the
 /// schedule; each is loaded and read before the next. Line l of the machine is entry l of `lines`.
 pub fn sequoia<S: Shelf, K: Sink, C: Chronicle>(
     alloc: Global,
@@ -45,6 +46,10 @@ pub fn sequoia<S: Shelf, K: Sink, C: Chronicle>(
         IsAnswered (list_map string_bytes words.now) m result }
     ensures shelf_fault { result ≡ Status.ShelfFault → Rose (S.shelf shelf.old).faults (S.shelf shelf.new).faults }
     ensures chronicle_fault { result ≡ Status.ChronicleFault → Rose (C.chronicle chronicle.old).faults (C.chronicle chronicle.new).faults }
+
+    // A fault of the chronicle isn't answered as want of memory: no fault came, or memory was refused to it.
+    ensures chronicle_memory { result ≡ Status.NoMemory → ((C.chronicle chronicle.new).faults ≡ (C.chronicle chronicle.old).faults)
+        ⊎ Rose (C.chronicle chronicle.old).refusals (C.chronicle chronicle.new).refusals }
     ensures line_fault { (l : _) → result ≡ Status.LineFault l →
         Rose (line_at (views line lines.old.items) l.0).faults (line_at (views line lines.new.items) l.0).faults }
 
@@ -68,8 +73,12 @@ pub fn sequoia<S: Shelf, K: Sink, C: Chronicle>(
         Ok(loaded) => loaded,
         Err(status) => return status,
     };
+    let events = match plain_events(alloc, loaded.items.as_slice()) {
+        Ok(events) => events,
+        Err(_) => return Status::NoMemory,
+    };
     match PlainMachine::new(alloc, loaded.desc) {
-        Ok(mut plain) => plain.run(loaded.events.as_slice(), lines, chronicle),
+        Ok(mut plain) => plain.run(events.as_slice(), lines, chronicle),
         Err(_) => Status::NoMemory,
     }
 }

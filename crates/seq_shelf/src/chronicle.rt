@@ -26,6 +26,9 @@ pub trait Chronicle {
         ensures ok { OnOk result (Grows (chronicle self.old).told (chronicle self.new).told
             (record { pid = pid; count = count } ∷ [])) }
 
+        // A count rises with an error alone.
+        ensures ok_faults { OnOk result ((chronicle self.new).faults ≡ (chronicle self.old).faults) }
+
         // After an error the chronicle has what it had.
         ensures err { OnErr result ((chronicle self.new).told ≡ (chronicle self.old).told) }
         ensures fault { HasCause ChronicleError.Fault (chronicle self.old).faults (chronicle self.new).faults result }
@@ -131,27 +134,44 @@ mod tests {
     use super::*;
     use std::test::Fail;
 
+    const PAIRS: [Entry; 4] = [
+        Entry {
+            pid: Pid(3),
+            count: 8,
+        },
+        Entry {
+            pid: Pid(4),
+            count: 9,
+        },
+        Entry {
+            pid: Pid(5),
+            count: 1,
+        },
+        Entry {
+            pid: Pid(15),
+            count: 10_000,
+        },
+    ];
+
+    // The pairs that aren't taken, by their numbers' bits.
+    fn faults<C: Chronicle>(chronicle: &mut C, pairs: &[Entry]) -> u32 {
+        let mut faults = 0u32;
+        for pair in pairs {
+            let fault = chronicle.append(pair.pid, pair.count) == Err(ChronicleError::Fault);
+            faults = faults << 1 | u32::from(fault);
+        }
+        faults
+    }
+
     #[test]
     fn chronicles(rt: HostRuntime) -> Result<(), Fail> {
         let alloc = rt.alloc();
         let mut sound = SoundChronicle::new(alloc);
         let mut listed = MemChronicle::new(alloc, Bytes::copy_of(alloc, &[0, 2])?);
-        for (pid, count, wanted) in [
-            (3, 8, Err(ChronicleError::Fault)),
-            (4, 9, Ok(())),
-            (5, 1, Err(ChronicleError::Fault)),
-            (15, 10_000, Ok(())),
-        ] {
-            assert_eq!(rt; sound.append(Pid(pid), count), Ok(()), "pair {pid}");
-            assert_eq!(rt; listed.append(Pid(pid), count), wanted, "pair {pid}");
-        }
-        let pair = |pid, count| Entry {
-            pid: Pid(pid),
-            count,
-        };
-        let all = [pair(3, 8), pair(4, 9), pair(5, 1), pair(15, 10_000)];
-        assert_eq!(rt; sound.pairs(), all.as_slice());
-        assert_eq!(rt; listed.pairs(), [pair(4, 9), pair(15, 10_000)].as_slice());
+        assert_eq!(rt; faults(&mut sound, &PAIRS), 0);
+        assert_eq!(rt; faults(&mut listed, &PAIRS), 0b1010);
+        assert_eq!(rt; sound.pairs(), PAIRS.as_slice());
+        assert_eq!(rt; listed.pairs(), [PAIRS[1], PAIRS[3]].as_slice());
         Ok(())
     }
 }

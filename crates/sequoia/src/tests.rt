@@ -48,7 +48,7 @@ struct Row {
 const EIGHT_STEPS: &str =
     "turn p0\nturn p0\nturn p0\nturn p0\nturn p0\nturn p0\nturn p0\nturn p0\nturn i0\n";
 
-const ROWS: [Row; 11] = [
+const ROWS: [Row; 14] = [
     Row {
         schedule: EIGHT_STEPS,
         failing: NONE,
@@ -82,7 +82,7 @@ const ROWS: [Row; 11] = [
         failing: NONE,
         status: Status::Refused {
             file: 2,
-            place: 0,
+            place: 1,
             rule: 0,
         },
         bytes: &[],
@@ -144,11 +144,41 @@ const ROWS: [Row; 11] = [
         entries: 0,
     },
     Row {
-        schedule: "turn p0",
+        schedule: "# one step\r\n\n  turn\tp0",
+        failing: NONE,
+        status: Status::Done,
+        bytes: &[],
+        entries: 1,
+    },
+    Row {
+        schedule: "turn p0\nturn p1\n",
         failing: NONE,
         status: Status::Refused {
             file: 2,
-            place: 0,
+            place: 2,
+            rule: 32,
+        },
+        bytes: &[],
+        entries: 0,
+    },
+    Row {
+        schedule: "turn p0\nturns p0 0\n",
+        failing: NONE,
+        status: Status::Refused {
+            file: 2,
+            place: 2,
+            rule: 31,
+        },
+        bytes: &[],
+        entries: 0,
+    },
+    // The plain machine runs single turns alone.
+    Row {
+        schedule: "turn p0\nturn i0\nround 1\n",
+        failing: NONE,
+        status: Status::Refused {
+            file: 2,
+            place: 3,
             rule: 0,
         },
         bytes: &[],
@@ -475,11 +505,12 @@ fn turns(alloc: Global, count: usize) -> Result<Vec<u8>, AllocError> {
 
 // Commands over files: the words, the turns of the processor, the exit status, and the bytes of line 0 in its file, where
 // there is one. The long schedule has 2,400,008 bytes.
-const COMMANDS: [(&[&str], usize, u8, Option<&str>); 4] = [
+const COMMANDS: [(&[&str], usize, u8, Option<&str>); 5] = [
     (RUN, 8, 0, Some("A")),
     (RUN, 300_000, 0, Some("A")),
     (&["run", "a1.txt"], 8, 2, None),
     (&["run", "none.txt", "s.txt"], 8, 3, None),
+    (&["run", "s.txt", "s.txt"], 8, 3, None),
 ];
 
 #[test]

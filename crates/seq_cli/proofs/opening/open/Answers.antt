@@ -1,79 +1,82 @@
-use Rattle.std.proofs.Common.{◌≡◌, ◌∙◌, ◌<◌, ap, sym, subst, refl, arith, List, None, ℕ, true}
-use Rattle.seq_loader.specs.Faults.{first_fault}
-use Rattle.seq_loader.specs.Image.{Spells}
+use Rattle.std.proofs.Common.{◌≡◌, ◌∙◌, ◌<◌, sym, subst, refl, arith, List, [], None, ℕ, true, length}
 use Rattle.seq_manifest.specs.Drafts.{Describes}
 use Rattle.seq_manifest.specs.Faults.{first_fault as description_fault}
-use Rattle.seq_words.specs.Description.{IsDescription}
-use Rattle.seq_cli.specs.Opening.{is_built, OpensFile, OpensBuilt, OpensMachine, OpensImage, OpensSchedule, schedule_fault, Schedules, with_image, ready, refused}
-use Rattle.seq_cli.specs.Endings.{Stops}
-use Rattle.seq_cli.specs.Loads.{Loads, failed_of}
-use Rattle.seq_cli.proofs.Openings.{stops_file, stops_next, opens_file, stops_built, earlier}
-use Rattle.seq_cli.proofs.Described.{described, one_process}
+use Rattle.seq_cli.specs.Files.{refused, ready}
+use Rattle.seq_cli.specs.Parts.{names_of, OpensParts}
+use Rattle.seq_cli.specs.Schedule.{schedule_fault, Schedules}
+use Rattle.seq_cli.specs.Opening.{is_built, OpensBuilt, OpensMachine, OpensSchedule, OpensItems}
+use Rattle.seq_cli.specs.Endings.{ending_of}
+use Rattle.seq_cli.specs.Loads.{Loads, LoadStops, failed_of}
+use Rattle.seq_cli.proofs.Openings.{ends_more, stops_file, stops_next, stops_built, stops_record, opens_file, opens_parts, parts_longer, earlier}
 use Rattle.seq_cli.proofs.opening.open.Goals as goal
-
-pub image_name-requires-clause-one : goal.image_name-requires-clause-one
-image_name-requires-clause-one g c = one_process c.in-Ok.draft.desc (sym c.if-not-is_built.ensures)
 
 pub returns-in-Err-clause-err : goal.returns-in-Err-clause-err
 returns-in-Err-clause-err g c = λ m told.
     let failed = failed_of c.in-Err.status 0 in
-    (failed, stops_file c.in-Err.status 0 description_fault Describes (OpensMachine m failed c.args.schedule.now) (m c.args.machine.now) (c.in-Err.ensures.err m told))
+    let stops = subst (λ (files : List (List ℕ)). LoadStops c.in-Err.status files description_fault (m c.args.machine.now)) c.new-files.ensures (c.in-Err.ensures.err m told) in
+    (failed, stops_file c.in-Err.status [] description_fault Describes (OpensMachine m failed c.args.schedule.now) (m c.args.machine.now) stops)
 
 pub returns-then-not-is_built-clause-err : goal.returns-then-not-is_built-clause-err
-returns-then-not-is_built-clause-err g c = λ m told. (
-  None,
-  opens_file None 0 description_fault Describes (OpensMachine m None c.args.schedule.now) (m c.args.machine.now) c.in-Ok.draft (refused 0 0 0) refl (c.in-Ok.ensures.ok m told)
-      (subst (λ b. OpensBuilt b m None c.args.schedule.now c.in-Ok.draft (refused 0 0 0)) c.if-not-is_built.ensures refl),
-)
+returns-then-not-is_built-clause-err g c = λ m told.
+    let files = c.load_draft.new.files in
+    let draft = c.in-Ok.draft in
+    let loads = subst (λ (none : List (List ℕ)). Loads description_fault Describes (m c.args.machine.now) none files draft) c.new-files.ensures (c.in-Ok.ensures.ok m told) in (
+      None,
+      opens_file None description_fault Describes (OpensMachine m None c.args.schedule.now) (m c.args.machine.now) [] files draft (refused 0 0 0) refl loads
+          (subst (λ b. OpensBuilt b m None c.args.schedule.now files draft (refused 0 0 0)) c.if-not-is_built.ensures refl),
+    )
 
-pub returns-in-Err-load_image-clause-err : goal.returns-in-Err-load_image-clause-err
-returns-in-Err-load_image-clause-err g c = λ m told.
-    let status = c.in-Err-load_image.status in
-    let failed = failed_of status 1 in
-    let machine = c.in-Ok.ensures.ok m told in
-    let built : is_built c.in-Ok.draft.desc ≡ true = sym c.if-not-is_built.ensures in
-    let first : 0 < 1 = omega arith in
-    let stops = stops_file status 1 first_fault Spells (OpensImage m failed c.args.schedule.now c.in-Ok.draft) (m c.image_name.result.now) (c.in-Err-load_image.ensures.err m (c.in-Ok.ensures.same ∙ told)) in (
+pub returns-in-Err-load_parts-clause-err : goal.returns-in-Err-load_parts-clause-err
+returns-in-Err-load_parts-clause-err g c = λ m told.
+    let status = c.in-Err-load_parts.status in
+    let files = c.load_draft.new.files in
+    let draft = c.in-Ok.draft in
+    let loads = subst (λ (none : List (List ℕ)). Loads description_fault Describes (m c.args.machine.now) none files draft) c.new-files.ensures (c.in-Ok.ensures.ok m told) in
+    let built : is_built draft.desc ≡ true = sym c.if-not-is_built.ensures in
+    let stop = c.in-Err-load_parts.ensures.err m (c.in-Ok.ensures.same ∙ told) in
+    let failed = failed_of status (length stop.files) in
+    let longer = parts_longer m 0 stop.front files draft.desc stop.files stop.desc stop.loaded in
+    let first : 0 < length stop.files = omega (arith, longer, c.in-Ok.ensures.one) in (
       failed,
-      stops_next status failed 0 description_fault Describes (OpensMachine m failed c.args.schedule.now) (m c.args.machine.now) c.in-Ok.draft (earlier status 1 0 first) machine
-          (stops_built status m failed c.args.schedule.now c.in-Ok.draft built
-          (subst (λ (n : List ℕ). Stops (OpensFile failed 1 first_fault Spells (OpensImage m failed c.args.schedule.now c.in-Ok.draft) (m n)) status) c.image_name.ensures stops)),
+      stops_next status failed description_fault Describes (OpensMachine m failed c.args.schedule.now) (m c.args.machine.now) [] files draft (earlier status (length stop.files) 0 first) loads
+          (stops_built status m failed c.args.schedule.now files draft built (stops_record m status (names_of draft) files draft.desc (OpensSchedule m failed c.args.schedule.now) stop)),
     )
 
 pub returns-in-Err-load_schedule-clause-err : goal.returns-in-Err-load_schedule-clause-err
 returns-in-Err-load_schedule-clause-err g c = λ m told.
     let status = c.in-Err-load_schedule.status in
-    let failed = failed_of status 2 in
-    let machine = c.in-Ok.ensures.ok m told in
-    let built : is_built c.in-Ok.draft.desc ≡ true = sym c.if-not-is_built.ensures in
-    let first : 0 < 2 = omega arith in
-    let second : 1 < 2 = omega arith in
-    let told_image = c.in-Ok.ensures.same ∙ told in
-    let image : Loads first_fault Spells (m c.image_name.result.now) c.in-Ok-load_image.image = c.in-Ok-load_image.ensures.ok m told_image in
-    let desc = with_image c.in-Ok.draft.desc 0 c.in-Ok-load_image.image in
-    let stops = stops_file status 2 schedule_fault Schedules (OpensSchedule desc) (m c.args.schedule.now) (c.in-Err-load_schedule.ensures.err m (c.in-Ok-load_image.ensures.same ∙ told_image)) in
-    let after_image = stops_next status failed 1 first_fault Spells (OpensImage m failed c.args.schedule.now c.in-Ok.draft) (m c.image_name.result.now) c.in-Ok-load_image.image (earlier status 2 1 second) image stops in (
+    let files = c.load_draft.new.files in
+    let after = c.load_parts.new.files in
+    let draft = c.in-Ok.draft in
+    let desc = c.in-Ok-load_parts.desc in
+    let loads = subst (λ (none : List (List ℕ)). Loads description_fault Describes (m c.args.machine.now) none files draft) c.new-files.ensures (c.in-Ok.ensures.ok m told) in
+    let built : is_built draft.desc ≡ true = sym c.if-not-is_built.ensures in
+    let told_parts = c.in-Ok.ensures.same ∙ told in
+    let parts = c.in-Ok-load_parts.ensures.ok m told_parts in
+    let failed = failed_of status (length after) in
+    let longer = parts_longer m 0 (names_of draft) files draft.desc after desc parts in
+    let first : 0 < length after = omega (arith, longer, c.in-Ok.ensures.one) in
+    let stops = stops_file status after (schedule_fault desc) Schedules (OpensItems desc) (m c.args.schedule.now) (c.in-Err-load_schedule.ensures.err m (c.in-Ok-load_parts.ensures.same ∙ told_parts)) in
+    let behind = ends_more (OpensSchedule m failed c.args.schedule.now after desc) (OpensParts m failed 0 (names_of draft) files draft.desc (OpensSchedule m failed c.args.schedule.now))
+    (λ o. opens_parts m failed 0 (names_of draft) files draft.desc after desc (OpensSchedule m failed c.args.schedule.now) o (λ k lt. earlier status (length after) k lt) parts) (ending_of status) stops in (
       failed,
-      stops_next status failed 0 description_fault Describes (OpensMachine m failed c.args.schedule.now) (m c.args.machine.now) c.in-Ok.draft (earlier status 2 0 first) machine
-          (stops_built status m failed c.args.schedule.now c.in-Ok.draft built
-          (subst (λ (n : List ℕ). Stops (OpensFile failed 1 first_fault Spells (OpensImage m failed c.args.schedule.now c.in-Ok.draft) (m n)) status) c.image_name.ensures after_image)),
+      stops_next status failed description_fault Describes (OpensMachine m failed c.args.schedule.now) (m c.args.machine.now) [] files draft (earlier status (length after) 0 first) loads
+          (stops_built status m failed c.args.schedule.now files draft built behind),
     )
 
 pub returns-clause-ok : goal.returns-clause-ok
 returns-clause-ok g c = λ m told.
-    let machine = c.in-Ok.ensures.ok m told in
-    let built : is_built c.in-Ok.draft.desc ≡ true = sym c.if-not-is_built.ensures in
-    let told_image = c.in-Ok.ensures.same ∙ told in
-    let image : Loads first_fault Spells (m c.image_name.result.now) c.in-Ok-load_image.image = c.in-Ok-load_image.ensures.ok m told_image in
-    let events = c.in-Ok-load_schedule.ensures.ok m (c.in-Ok-load_image.ensures.same ∙ told_image) in
-    let desc = with_image c.in-Ok.draft.desc 0 c.in-Ok-load_image.image in
-    let end = ready c.add_image.result c.in-Ok-load_schedule.events in
-    let after_image = opens_file None 1 first_fault Spells (OpensImage m None c.args.schedule.now c.in-Ok.draft) (m c.image_name.result.now) c.in-Ok-load_image.image end refl image
-    (opens_file None 2 schedule_fault Schedules (OpensSchedule desc) (m c.args.schedule.now) c.in-Ok-load_schedule.events end refl events (ap (λ d. ready d c.in-Ok-load_schedule.events) c.add_image.ensures)) in
-    opens_file None 0 description_fault Describes (OpensMachine m None c.args.schedule.now) (m c.args.machine.now) c.in-Ok.draft end refl machine
-    (subst (λ b. OpensBuilt b m None c.args.schedule.now c.in-Ok.draft end) (sym built)
-    (subst (λ (n : List ℕ). OpensFile None 1 first_fault Spells (OpensImage m None c.args.schedule.now c.in-Ok.draft) (m n) end) c.image_name.ensures after_image))
-
-pub returns-clause-described : goal.returns-clause-described
-returns-clause-described g c =
-    subst IsDescription (sym c.add_image.ensures) (described c.in-Ok.draft c.in-Ok-load_image.image (sym c.if-not-is_built.ensures) c.in-Ok.ensures.draft c.in-Ok-load_image.ensures.image)
+    let files = c.load_draft.new.files in
+    let after = c.load_parts.new.files in
+    let draft = c.in-Ok.draft in
+    let desc = c.in-Ok-load_parts.desc in
+    let loads = subst (λ (none : List (List ℕ)). Loads description_fault Describes (m c.args.machine.now) none files draft) c.new-files.ensures (c.in-Ok.ensures.ok m told) in
+    let built : is_built draft.desc ≡ true = sym c.if-not-is_built.ensures in
+    let told_parts = c.in-Ok.ensures.same ∙ told in
+    let parts = c.in-Ok-load_parts.ensures.ok m told_parts in
+    let items = c.in-Ok-load_schedule.ensures.ok m (c.in-Ok-load_parts.ensures.same ∙ told_parts) in
+    let end = ready desc c.in-Ok-load_schedule.items c.load_schedule.new.files in
+    let last = opens_file None (schedule_fault desc) Schedules (OpensItems desc) (m c.args.schedule.now) after c.load_schedule.new.files c.in-Ok-load_schedule.items end refl items refl in
+    opens_file None description_fault Describes (OpensMachine m None c.args.schedule.now) (m c.args.machine.now) [] files draft end refl loads
+    (subst (λ b. OpensBuilt b m None c.args.schedule.now files draft end) (sym built)
+    (opens_parts m None 0 (names_of draft) files draft.desc after desc (OpensSchedule m None c.args.schedule.now) end (λ k lt. refl) parts last))

@@ -1,6 +1,8 @@
 use Rattle.std.proofs.Common.{map as list_map}
-use Rattle.std.proofs.Common.{Err, None, ap, refl, string_bytes, sym, subst}
-use Rattle.seq_cli.specs.Opening.{OpensForm, Opens, usage, ready}
+use Rattle.std.proofs.Common.{◌∙◌, Err, None, ap, refl, string_bytes, sym, subst}
+use Rattle.seq_cli.specs.Files.{usage, ready}
+use Rattle.seq_cli.specs.Opening.{OpensForm, Opens}
+use Rattle.seq_cli.specs.Schedule.{plain_events}
 use Rattle.seq_cli.specs.Endings.{ending_of, Stops}
 use Rattle.seq_cli.proofs.Deterministic.{stops_ready}
 use Rattle.seq_cli.proofs.Openings.{ends_at_all}
@@ -17,10 +19,14 @@ pub returns-clause-released : goal.returns-clause-released
 returns-clause-released g c = releases_nothing _ _ _ _
 
 pub returns-in-Ok-new-clause-released : goal.returns-in-Ok-new-clause-released
-returns-in-Ok-new-clause-released g c = releases_run _ _ c.run.result c.in-Ok.loaded.desc c.in-Ok.loaded.events _ _ _ _
-    (λ m told. subst (λ form. OpensForm m None form (ready c.in-Ok.loaded.desc c.in-Ok.loaded.events)) (sym c.in-Some.ensures) (c.in-Ok.ensures.ok m told))
+returns-in-Ok-new-clause-released g c = releases_run _ _ c.run.result c.in-Ok.loaded.desc c.in-Ok.loaded.items c.in-Ok.loaded.files _ _ _ _
+    (λ m told. subst (λ form. OpensForm m None form (ready c.in-Ok.loaded.desc c.in-Ok.loaded.items c.in-Ok.loaded.files)) (sym c.in-Some.ensures) (c.in-Ok.ensures.ok m told))
     c.in-Ok.ensures.described
-    (ran_at c.run.result c.in-Ok-new.plain.desc c.in-Ok.loaded.desc c.as_slice.result.now c.in-Ok.loaded.events _ _ _ _ c.in-Ok-new.ensures.desc c.as_slice.ensures c.run.ensures.ran)
+    (ran_at c.run.result c.in-Ok-new.plain.desc c.in-Ok.loaded.desc c.as_slice-in-Ok-new.result.now (plain_events c.in-Ok.loaded.items) _ _ _ _ c.in-Ok-new.ensures.desc
+    (c.as_slice-in-Ok-new.ensures ∙ c.in-Ok-plain_events.ensures ∙ ap plain_events c.as_slice.ensures) c.run.ensures.ran)
+
+pub returns-in-Err-plain_events-clause-released : goal.returns-in-Err-plain_events-clause-released
+returns-in-Err-plain_events-clause-released g c = releases_nothing _ _ _ _
 
 pub returns-in-Ok-new-clause-complete : goal.returns-in-Ok-new-clause-complete
 returns-in-Ok-new-clause-complete g c = λ m told ready shelf chronicle line.
@@ -41,10 +47,13 @@ returns-in-Err-clause-answers g c = λ m told.
     let stops = subst (λ form. Stops (OpensForm m found.0 form) c.in-Err.status) (sym c.in-Some.ensures) found.1 in
     record { failed = found.0; answers = ends_at_all (Opens (list_map string_bytes c.args.words.now) m found.0) (ending_of c.in-Err.status) stops }
 
+pub returns-in-Err-plain_events-clause-answers : goal.returns-in-Err-plain_events-clause-answers
+returns-in-Err-plain_events-clause-answers g c = λ m told. record { failed = None; answers = tt }
+
 pub returns-clause-answers : goal.returns-clause-answers
 returns-clause-answers g c = λ m told. record { failed = None; answers = tt }
 
 pub returns-in-Ok-new-clause-answers : goal.returns-in-Ok-new-clause-answers
 returns-in-Ok-new-clause-answers g c = λ m told.
-    let asked = subst (λ form. OpensForm m None form (ready c.in-Ok.loaded.desc c.in-Ok.loaded.events)) (sym c.in-Some.ensures) (c.in-Ok.ensures.ok m told) in
-    record { failed = None; answers = ran_answers (Opens (list_map string_bytes c.args.words.now) m None) c.run.result _ _ _ _ _ _ c.run.ensures.ran (record { desc = c.in-Ok.loaded.desc; events = c.in-Ok.loaded.events; asked = asked }) }
+    let asked = subst (λ form. OpensForm m None form (ready c.in-Ok.loaded.desc c.in-Ok.loaded.items c.in-Ok.loaded.files)) (sym c.in-Some.ensures) (c.in-Ok.ensures.ok m told) in
+    record { failed = None; answers = ran_answers (Opens (list_map string_bytes c.args.words.now) m None) c.run.result _ _ _ _ _ _ c.run.ensures.ran (record { desc = c.in-Ok.loaded.desc; items = c.in-Ok.loaded.items; files = c.in-Ok.loaded.files; asked = asked }) }

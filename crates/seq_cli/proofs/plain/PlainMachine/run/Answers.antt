@@ -14,5 +14,6 @@ loop-event-preserved g c = record {
   going = going_on_at _ _ _ _ _ _ (Processor (record { 0 = 0 })) _ _ _ _ _ _ c.loop-event.invariant.desc c.requires.none_accepted c.loop-event-test.true c.loop-event.invariant.going
       c.in_default.ensures.state c.in_default.ensures.pairs c.in_default.ensures.bytes;
   marks = c.in_default.ensures.marks ∙ c.loop-event.invariant.marks;
-  faults = omega (arith, c.in_default.ensures.faults, c.loop-event.invariant.faults);
+  faults = c.in_default.ensures.ok_faults ∙ c.loop-event.invariant.faults;
+  refusals = omega (arith, c.in_default.ensures.refusals, c.loop-event.invariant.refusals);
 }

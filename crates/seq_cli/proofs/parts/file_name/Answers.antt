@@ -2,7 +2,7 @@ use Rattle.std.specs.Prelude.{◌&&◌, nat_le, length}
 use Rattle.std.specs.Str.{is_utf8}
 use Rattle.std.proofs.lemmas.Bool.{and_parts}
 use Rattle.std.proofs.lemmas.Str.{IsUtf8-from_is_utf8}
-use Rattle.seq_cli.proofs.opening.file_name.Goals as goal
+use Rattle.seq_cli.proofs.parts.file_name.Goals as goal
 
 pub unreachable-requires : goal.unreachable-requires
 unreachable-requires c =
