@@ -3,4 +3,3 @@ pub mod Wired
 pub mod Cases
 pub mod Nothing
 pub mod Served
-pub mod OneLine

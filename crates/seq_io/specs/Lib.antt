@@ -3,4 +3,3 @@ pub mod Lines
 pub mod Bounds
 pub mod Duties
 pub mod Turns
-pub mod OneLine

@@ -12,4 +12,8 @@ pub use laws::machines_are_wired;
 pub use turns::turn;
 
 #[cfg(test)]
+mod bench;
+#[cfg(test)]
+mod course_tests;
+#[cfg(test)]
 mod tests;

@@ -1,15 +1,13 @@
 // Turns of an I/O element at line 0 of process 0, on two memories. The primaries of both are on memory 0, the shadows on memory 1.
-ghost use Rattle.std.specs.Prelude.{◌≡◌, ◌≤◌, ◌<◌, true, length, IfOk};
-ghost use Rattle.seq_layout.specs.Copies.{Matches, copies};
-ghost use Rattle.seq_io.specs.Bounds.{AreReadable, ArePorts};
-ghost use Rattle.seq_io.specs.OneLine.{HasOneLine};
+ghost use Rattle.std.specs.Prelude.{◌≡◌, ◌<◌, length, IfOk};
+ghost use Rattle.seq_layout.specs.Copies.{Matches};
 
+use crate::bench::{bytes_from, layout_of, line, may_turn, put_block, put_word, take_away};
 use crate::{IoElement, IoNote, PortState, turn};
-use seq_layout::{Extent, Layout, WordAt};
+use seq_layout::{Extent, Layout};
 use seq_memory::Memories;
 use seq_samples::one_line;
-use seq_shelf::{Line, LineError, MemLine, Outlet};
-use seq_status::of_word;
+use seq_shelf::{LineError, Outlet};
 use seq_words::{Block, Bytes, Items, LineNo, Me, set_block_byte, set_block_word};
 use std::alloc::Global;
 use std::process::Abort;
@@ -63,29 +61,10 @@ struct Left {
     taken: u32,
 }
 
-fn layout(alloc: Global) -> Result<Layout, Fail>
-    ensures { IfOk result HasOneLine }
-{
-    let desc = one_line(alloc)?;
-    Ok(Layout::new(alloc, &desc)?)
-}
-
-/// Bytes that count up from the first one.
-fn bytes_from(first: u8) -> [u8; 32]
-    requires { first ≤ 200 }
-{
-    let mut bytes = [first; 32];
-    for (i, byte) in bytes.iter_mut().enumerate() {
-        *byte = first + i as u8;
-    }
-    bytes
-}
-
 /// Sets a copy of the process: its status word, how many bytes are written, and in its outbox 100, 101 and so on from place 0,
 /// 150, 151 and so on from place 32.
 fn set_process(memories: &mut Memories, layout: &Layout, shadow: bool, scene: &Scene)
-    requires matches { Matches layout.now memories.old }
-    requires shape { HasOneLine layout.now }
+    requires { Matches layout.now memories.old }
     ensures { Matches layout.now memories.new }
 {
     let mut context = Block::zero();
@@ -96,61 +75,39 @@ fn set_process(memories: &mut Memories, layout: &Layout, shadow: bool, scene: &S
     let second = Block {
         bytes: bytes_from(150),
     };
-    let status = WordAt {
-        extent: PROCESS,
-        word: 0,
-    };
-    layout.write_block(memories, PROCESS, 5, shadow, &context);
-    layout.write_block(memories, PROCESS, 8, shadow, &first);
-    layout.write_block(memories, PROCESS, 9, shadow, &second);
-    layout.write_word(memories, status, shadow, scene.status);
-}
-
-/// Sets a copy of a word of the line.
-fn set_word(memories: &mut Memories, layout: &Layout, shadow: bool, word: u32, value: u64)
-    requires matches { Matches layout.now memories.old }
-    requires shape { HasOneLine layout.now }
-    requires word { word < 3 }
-    ensures { Matches layout.now memories.new }
-{
-    let at = WordAt { extent: LINE, word };
-    layout.write_word(memories, at, shadow, value);
+    put_block(memories, layout, PROCESS, 5, shadow, &context);
+    put_block(memories, layout, PROCESS, 8, shadow, &first);
+    put_block(memories, layout, PROCESS, 9, shadow, &second);
+    put_word(memories, layout, PROCESS, 0, shadow, scene.status);
 }
 
 /// Sets a copy of the line, with its journal's byte at an index.
 fn set_line(memories: &mut Memories, layout: &Layout, shadow: bool, held: &Held, index: u32)
-    requires matches { Matches layout.now memories.old }
-    requires shape { HasOneLine layout.now }
+    requires { Matches layout.now memories.old }
     ensures { Matches layout.now memories.new }
 {
     let mut journal = Block::zero();
     set_block_byte(&mut journal, index as usize % 32, held.byte);
-    layout.write_block(memories, LINE, 0, shadow, &journal);
-    set_word(memories, layout, shadow, 0, held.journaled);
-    set_word(memories, layout, shadow, 1, held.closed);
-    set_word(memories, layout, shadow, 2, held.sent);
+    put_block(memories, layout, LINE, 0, shadow, &journal);
+    put_word(memories, layout, LINE, 0, shadow, held.journaled);
+    put_word(memories, layout, LINE, 1, shadow, held.closed);
+    put_word(memories, layout, LINE, 2, shadow, held.sent);
 }
 
 /// The memory that is away has failed.
-#[tactic(auto, unfolding(seq_layout::specs::Copies::failed))]
 fn set_away(memories: &mut Memories, layout: &Layout, away: Away)
-    requires matches { Matches layout.now memories.old }
-    requires shape { HasOneLine layout.now }
+    requires { Matches layout.now memories.old }
     ensures { Matches layout.now memories.new }
 {
     match away {
         Away::None => {}
-        Away::Primary => layout.fail(memories, Me(0)),
-        Away::Shadow => layout.fail(memories, Me(1)),
-        Away::Repaired => {
-            layout.fail(memories, Me(1));
-            layout.repair(memories, Me(1));
-        }
+        Away::Primary => take_away(memories, layout, Me(0), false),
+        Away::Shadow => take_away(memories, layout, Me(1), false),
+        Away::Repaired => take_away(memories, layout, Me(1), true),
     }
 }
 
 fn memories(alloc: Global, layout: &Layout, scene: &Scene) -> Result<Memories, Fail>
-    requires { HasOneLine layout.now }
     ensures { IfOk result (Matches layout.now) }
 {
     let mut memories = layout.memories(alloc)?;
@@ -162,30 +119,8 @@ fn memories(alloc: Global, layout: &Layout, scene: &Scene) -> Result<Memories, F
     Ok(memories)
 }
 
-/// Whether a copy of the process is in service, and the status word of the first one is inside the format.
-#[tactic(auto, using(crate::proofs::OneLine::readable))]
-fn is_readable(memories: &Memories, layout: &Layout) -> bool
-    requires matches { Matches layout.now memories.now }
-    requires shape { HasOneLine layout.now }
-    ensures { result ≡ true → AreReadable layout.now (copies layout.now memories.now) }
-{
-    let status = WordAt {
-        extent: PROCESS,
-        word: 0,
-    };
-    let first = layout.first_is_shadow(PROCESS, memories);
-    layout.serves(memories, PROCESS, first)
-        && of_word(layout.first_word(memories, status)).is_some()
-}
-
 /// The port of the line, alone.
-#[tactic(auto, using(crate::proofs::OneLine::alone))]
-fn ports(alloc: Global, scene: &Scene, layout: &Layout) -> Result<Items<PortState>, Fail>
-    requires taken { scene.now.taken ≤ scene.now.arrived }
-    requires arrived { scene.now.arrived ≤ 32 }
-    requires shape { HasOneLine layout.now }
-    ensures { IfOk result (ArePorts layout.now) }
-{
+fn ports(alloc: Global, scene: &Scene) -> Result<Items<PortState>, Fail> {
     let port = PortState {
         taken: scene.taken,
         arrived: scene.arrived,
@@ -193,21 +128,6 @@ fn ports(alloc: Global, scene: &Scene, layout: &Layout) -> Result<Items<PortStat
         closed: scene.closed,
     };
     Ok(Items::from_vec(vec![in alloc; port]?))
-}
-
-/// The line with the bytes that it has accepted. Its first call of `send` fails where the scene's line does.
-fn line(alloc: Global, scene: &Scene) -> Result<MemLine, Fail> {
-    let failing = if scene.fails {
-        Bytes::copy_of(alloc, &[0])?
-    } else {
-        Bytes::new(alloc)
-    };
-    let mut line = MemLine::new(alloc, failing);
-    for _ in 0..scene.accepted {
-        let index = line.accepted();
-        let _ = line.send(index, 7);
-    }
-    Ok(line)
 }
 
 /// What a memory holds of the line, with its journal's byte at an index.
@@ -239,20 +159,20 @@ fn what_is_left(
     })
 }
 
-/// A turn in a scene, with its outlet alone: None where the scene is outside the turn's bounds.
+/// A turn in a scene, with its outlet: None where the scene is outside the turn's bounds.
 fn turned_with(alloc: Global, scene: &Scene, lines: &mut Vec<Outlet>) -> Result<Option<Left>, Fail>
     requires { length lines.old.items ≡ 1 }
 {
-    let layout = layout(alloc)?;
+    let layout = layout_of(alloc, &one_line(alloc)?)?;
     let mut memories = memories(alloc, &layout, scene)?;
-    if !is_readable(&memories, &layout) || scene.taken > scene.arrived || scene.arrived > 32 {
-        return Ok(None);
-    }
-    let mut ports = ports(alloc, scene, &layout)?;
+    let mut ports = ports(alloc, scene)?;
     let mut io = IoElement {
         up: scene.up,
         cursor: 0,
     };
+    if !may_turn(&io, &ports, &memories, &layout) || layout.lines() > 1 {
+        return Ok(None);
+    }
     let note = turn(&mut io, &mut ports, &mut memories, &layout, lines);
     Ok(what_is_left(note, &memories, ports.as_slice(), lines, scene.taken))
 }
@@ -260,7 +180,7 @@ fn turned_with(alloc: Global, scene: &Scene, lines: &mut Vec<Outlet>) -> Result<
 /// A turn in a scene.
 fn turned(alloc: Global, scene: &Scene) -> Result<Option<Left>, Fail> {
     let outlet = Outlet {
-        line: Box::new(alloc, line(alloc, scene)?)?,
+        line: Box::new(alloc, line(alloc, scene.accepted, scene.fails)?)?,
         hung: scene.hung,
     };
     let mut lines = vec![in alloc; outlet]?;

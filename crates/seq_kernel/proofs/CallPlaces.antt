@@ -101,8 +101,8 @@ unfolding mapped
 address_place d p held a at is below found =
     some_of (IsIn d) (nat_lt a (process_of d p).size) (record { 0 = p }, before_private (process_of d p) + a) at _ found (private_place d p a is below)
     (λ beyond.
-    past_none (IsIn d at) (nat_lt a 1073741824) at _ beyond
-    (λ shared. some_of (IsIn d) _ (record { 0 = length d.processes + (a - 1073741824) / 65536 }, (a - 1073741824) % 65536) at None shared (shared_place d held ((a - 1073741824) / 65536) ((a - 1073741824) % 65536) is) (nothing (IsIn d at) at)))
+    past_none (IsIn d at) (nat_lt a 0x40000000) at _ beyond
+    (λ shared. some_of (IsIn d) _ (record { 0 = length d.processes + (a - 0x40000000) / 0x10000 }, (a - 0x40000000) % 0x10000) at None shared (shared_place d held ((a - 0x40000000) / 0x10000) ((a - 0x40000000) % 0x10000) is) (nothing (IsIn d at) at)))
 
 pub mapped_place : (d : MachineDesc) (s : Shape) (p held a : ℕ) (at : Extent × ℕ) → IsDescription d → s ≡ shape_of d → p < length d.processes → mapped d p held a ≡ Some at → IsPlace s.blocks at.0.0 (at.1 / 32)
 mapped_place d s p held a at is same below found = rw same (address_place d p held a at is below found)

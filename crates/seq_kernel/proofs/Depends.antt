@@ -56,7 +56,7 @@ module _ (d : MachineDesc) (q held : ℕ) (segments : ℕ → Bool) where
     unfolding mapped
     mapped_inside a =
         cond_both (nat_lt a (process_of d q).size) _ _ Inside (λ _. inside_at (record { 0 = q }, before_private (process_of d q) + a) (process_in_area d q segments))
-        (λ _. cond_both (nat_lt a 1073741824) _ _ Inside (λ _. inside_none) (λ _. shared_inside ((a - 1073741824) / 65536) ((a - 1073741824) % 65536)))
+        (λ _. cond_both (nat_lt a 0x40000000) _ _ Inside (λ _. inside_none) (λ _. shared_inside ((a - 0x40000000) / 0x10000) ((a - 0x40000000) % 0x10000)))
 
 -- a process sees the same of blocks that are alike in its area
 pub seen_in_the_area : SeenInTheArea

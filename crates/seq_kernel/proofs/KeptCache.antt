@@ -49,11 +49,11 @@ OwnsByte d r at = IsOwned d r at.0.0 (at.1 / 32)
 mapped_owned : (d : MachineDesc) (r : Running) (a : ℕ) (at : Extent × ℕ) → mapped d r.pid.0 r.held a ≡ Some at → OwnsByte d r at
 unfolding mapped
 mapped_owned d r a at found =
-    let t : ℕ = (a - 1073741824) / 65536 in
-    let offset : ℕ = (a - 1073741824) % 65536 in
+    let t : ℕ = (a - 0x40000000) / 0x10000 in
+    let offset : ℕ = (a - 0x40000000) % 0x10000 in
     cond_both (nat_lt a (process_of d r.pid.0).size) (Some (record { 0 = r.pid.0 }, before_private (process_of d r.pid.0) + a)) _ (λ (o : Option (Extent × ℕ)). o ≡ Some at → OwnsByte d r at)
     (λ low is. subst (OwnsByte d r) (same_Some (record { 0 = r.pid.0 }, before_private (process_of d r.pid.0) + a) at is) (inl (refl, omega arith)))
-    (λ beyond. cond_both (nat_lt a 1073741824) None _ (λ (o : Option (Extent × ℕ)). o ≡ Some at → OwnsByte d r at)
+    (λ beyond. cond_both (nat_lt a 0x40000000) None _ (λ (o : Option (Extent × ℕ)). o ≡ Some at → OwnsByte d r at)
     (λ between is. absurd (none-some at is))
     (λ high. cond_both ((nat_lt t (length d.segments) && has_bit r.held t) && nat_lt offset (segment_of d t).size) (Some (record { 0 = length d.processes + t }, offset)) None (λ (o : Option (Extent × ℕ)). o ≡ Some at → OwnsByte d r at)
     (λ shared is.

@@ -50,7 +50,7 @@ low_place d f r at width running flat wide inside =
     let some : 0 < width = positive width wide in
     mapped_private d r.pid.0 r.held at (omega arith)
 
-high_place : (d : MachineDesc) (f : FlatState) (o : Blocks) (r : Running) (at width : ℕ) → IsDescription d → IsRunning d r → IsFlat d f → Shows d f o r → IsWidth width → 1073741824 ≤ at → IsShared f.segments r.pid.0 at width → mapped d r.pid.0 r.held at ≡ Some (record { 0 = length d.processes + segment_number at }, offset_of at)
+high_place : (d : MachineDesc) (f : FlatState) (o : Blocks) (r : Running) (at width : ℕ) → IsDescription d → IsRunning d r → IsFlat d f → Shows d f o r → IsWidth width → 0x40000000 ≤ at → IsShared f.segments r.pid.0 at width → mapped d r.pid.0 r.held at ≡ Some (record { 0 = length d.processes + segment_number at }, offset_of at)
 high_place d f o r at width described running flat shows wide high shared =
     let there : segment_number at < length d.segments = (let same = flat.segments in let inside = shared.there in omega arith) in
     let size : length (segment_at f (segment_number at)).bytes ≡ (segment_of d (segment_number at)).size = flat.segment_sizes (segment_number at) there in
@@ -67,7 +67,7 @@ put_shown d f p c r wrote at width v next described running flat shows put =
     let g : FlatState = moved f r.pid.0 wrote (Some (at, width, v)) next in
     let bytes : List ℕ = bytes_next (process_at f r.pid.0).bytes (Some (at, width, v)) in
     let fits = ap admitted put.there in
-    elim (cases_lt at 1073741824) [
+    elim (cases_lt at 0x40000000) [
       | inl low ↦
           let inside : at + width ≤ length (process_at f r.pid.0).bytes = fits_private (process_at f r.pid.0).bytes f.segments r.pid.0 at width put.width put.aligned fits low in
           subst (λ o. ShowsMemory d g o r bytes) (sym (read_stored d p c r.pid.0 r.held at width v r.pid.0 (before_private (process_of d r.pid.0) + at) (low_place d f r at width running flat put.width inside)))

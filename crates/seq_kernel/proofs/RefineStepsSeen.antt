@@ -29,13 +29,13 @@ pub mapped_private : (d : MachineDesc) (pid held a : ℕ) → a < (process_of d 
 unfolding mapped
 mapped_private d pid held a low = rw (lt-ltb a (process_of d pid).size low) refl
 
-pub mapped_between : (d : MachineDesc) (pid held a : ℕ) → (process_of d pid).size ≤ a → a < 1073741824 → mapped d pid held a ≡ None
+pub mapped_between : (d : MachineDesc) (pid held a : ℕ) → (process_of d pid).size ≤ a → a < 0x40000000 → mapped d pid held a ≡ None
 unfolding mapped
-mapped_between d pid held a past low = rw (le-ltb a (process_of d pid).size past, lt-ltb a 1073741824 low) refl
+mapped_between d pid held a past low = rw (le-ltb a (process_of d pid).size past, lt-ltb a 0x40000000 low) refl
 
-pub mapped_high : (d : MachineDesc) (pid held a : ℕ) → (process_of d pid).size ≤ 65536 → 1073741824 ≤ a → mapped d pid held a ≡ mapped_shared d held (segment_number a) (offset_of a)
+pub mapped_high : (d : MachineDesc) (pid held a : ℕ) → (process_of d pid).size ≤ 65536 → 0x40000000 ≤ a → mapped d pid held a ≡ mapped_shared d held (segment_number a) (offset_of a)
 unfolding mapped
-mapped_high d pid held a small high = rw (le-ltb a (process_of d pid).size (omega arith), le-ltb a 1073741824 high) refl
+mapped_high d pid held a small high = rw (le-ltb a (process_of d pid).size (omega arith), le-ltb a 0x40000000 high) refl
 
 pub mapped_inside : (d : MachineDesc) (held t offset : ℕ) → t < length d.segments → has_bit held t ≡ true → offset < (segment_of d t).size → mapped_shared d held t offset ≡ Some (record { 0 = length d.processes + t }, offset)
 mapped_inside d held t offset there held_too inside = rw (lt-ltb t (length d.segments) there, held_too, lt-ltb offset (segment_of d t).size inside) refl
@@ -59,13 +59,13 @@ unfolding seen
 seen_is d pid held o a = refl
 
 -- the flat machine's view, below the segments and from them on
-pub flat_low : (bytes : List ℕ) (segments : List SegmentState) (p a : ℕ) → a < 1073741824 → flat_seen bytes segments p a ≡ slice_get bytes a
+pub flat_low : (bytes : List ℕ) (segments : List SegmentState) (p a : ℕ) → a < 0x40000000 → flat_seen bytes segments p a ≡ slice_get bytes a
 unfolding flat_seen
-flat_low bytes segments p a lt = rw (lt-ltb a 1073741824 lt) refl
+flat_low bytes segments p a lt = rw (lt-ltb a 0x40000000 lt) refl
 
-pub flat_high : (bytes : List ℕ) (segments : List SegmentState) (p a : ℕ) → 1073741824 ≤ a → flat_seen bytes segments p a ≡ slice_get (shared_bytes p (get_or segments (segment_number a) no_segment)) (offset_of a)
+pub flat_high : (bytes : List ℕ) (segments : List SegmentState) (p a : ℕ) → 0x40000000 ≤ a → flat_seen bytes segments p a ≡ slice_get (shared_bytes p (get_or segments (segment_number a) no_segment)) (offset_of a)
 unfolding flat_seen
-flat_high bytes segments p a le = rw (le-ltb a 1073741824 le) refl
+flat_high bytes segments p a le = rw (le-ltb a 0x40000000 le) refl
 
 -- a private byte is the same on both sides
 private_same : (d : MachineDesc) (f : FlatState) (o : Blocks) (r : Running) (a : ℕ) → IsRunning d r → IsFlat d f → Shows d f o r → a < (process_of d r.pid.0).size → slice_get (process_at f r.pid.0).bytes a ≡ read_at o (mapped d r.pid.0 r.held a)
@@ -77,7 +77,7 @@ private_same d f o r a running flat shows low =
     ∙ sym (ap (read_at o) (mapped_private d r.pid.0 r.held a low))
 
 -- above them there is nothing up to the segments
-between_same : (d : MachineDesc) (f : FlatState) (o : Blocks) (r : Running) (a : ℕ) → IsRunning d r → IsFlat d f → (process_of d r.pid.0).size ≤ a → a < 1073741824 → slice_get (process_at f r.pid.0).bytes a ≡ read_at o (mapped d r.pid.0 r.held a)
+between_same : (d : MachineDesc) (f : FlatState) (o : Blocks) (r : Running) (a : ℕ) → IsRunning d r → IsFlat d f → (process_of d r.pid.0).size ≤ a → a < 0x40000000 → slice_get (process_at f r.pid.0).bytes a ≡ read_at o (mapped d r.pid.0 r.held a)
 between_same d f o r a running flat past low =
     let size : length (process_at f r.pid.0).bytes ≡ (process_of d r.pid.0).size = flat.sizes r.pid.0 running.within.process in
     slice_get_past (process_at f r.pid.0).bytes a (omega arith)
@@ -125,7 +125,7 @@ shared_same d f o r t offset flat shows = elim (cases_lt t (length d.segments)) 
 same_at : (d : MachineDesc) (f : FlatState) (o : Blocks) (r : Running) (a : ℕ) → IsDescription d → IsRunning d r → IsFlat d f → Shows d f o r → flat_seen (process_at f r.pid.0).bytes f.segments r.pid.0 a ≡ read_at o (mapped d r.pid.0 r.held a)
 same_at d f o r a described running flat shows =
     let small : (process_of d r.pid.0).size ≤ 65536 = private_small d r.pid.0 described running.within.process in
-    elim (cases_lt a 1073741824) [
+    elim (cases_lt a 0x40000000) [
       | inl low ↦ flat_low (process_at f r.pid.0).bytes f.segments r.pid.0 a low ∙ (elim (cases_lt a (process_of d r.pid.0).size) [
         | inl inside ↦ private_same d f o r a running flat shows inside
         | inr past ↦ between_same d f o r a running flat past low

@@ -91,7 +91,7 @@ outbox_before d r l at q owned lt = let below : line_index d r l < count_ones (l
 
 -- a store among the private bytes
 pub low_stored : (d : MachineDesc) (f : FlatState) (p : Copies) (c : Changes) (r : Running) (wrote : Option (ℕ × ℕ)) (at width v next : ℕ)
-    → IsRunning d r → Shows d f (read_by d p c) r → IsWidth width → at % width ≡ 0 → at < 1073741824 → at + width ≤ length (process_at f r.pid.0).bytes
+    → IsRunning d r → Shows d f (read_by d p c) r → IsWidth width → at % width ≡ 0 → at < 0x40000000 → at + width ≤ length (process_at f r.pid.0).bytes
     → ShowsMemory d (moved f r.pid.0 wrote (Some (at, width, v)) next) (read_after d p c r.pid.0 (before_private (process_of d r.pid.0) + at) width v) r (bytes_next (process_at f r.pid.0).bytes (Some (at, width, v)))
 low_stored d f p c r wrote at width v next running shows wide aligned low inside =
     let g : FlatState = moved f r.pid.0 wrote (Some (at, width, v)) next in
@@ -113,7 +113,7 @@ low_stored d f p c r wrote at width v next running shows wide aligned low inside
     }
 
 -- a store stays in one block of its segment
-shared_block : (at width : ℕ) → IsWidth width → at % width ≡ 0 → 1073741824 ≤ at → offset_of at % 32 + width ≤ 32
+shared_block : (at width : ℕ) → IsWidth width → at % width ≡ 0 → 0x40000000 ≤ at → offset_of at % 32 + width ≤ 32
 shared_block at width (inl e) aligned high = omega arith
 shared_block at width (inr (inl e)) aligned high = let even : at % 2 ≡ 0 = subst (λ w. at % w ≡ 0) e aligned in omega arith
 shared_block at width (inr (inr e)) aligned high = let four : at % 4 ≡ 0 = subst (λ w. at % w ≡ 0) e aligned in omega arith
@@ -122,7 +122,7 @@ shared_block at width (inr (inr e)) aligned high = let four : at % 4 ≡ 0 = sub
 abbrev segments_stored : FlatState → ℕ → ℕ → ℕ → List SegmentState
 segments_stored f at width v = set f.segments (segment_number at) (segment_stored (segment_at f (segment_number at)) (offset_of at) width v)
 
-high_segment : (f : FlatState) (pid : ℕ) (wrote : Option (ℕ × ℕ)) (at width v next t : ℕ) → 1073741824 ≤ at → segment_at (moved f pid wrote (Some (at, width, v)) next) t ≡ get_or (segments_stored f at width v) t no_segment
+high_segment : (f : FlatState) (pid : ℕ) (wrote : Option (ℕ × ℕ)) (at width v next t : ℕ) → 0x40000000 ≤ at → segment_at (moved f pid wrote (Some (at, width, v)) next) t ≡ get_or (segments_stored f at width v) t no_segment
 high_segment f pid wrote at width v next t high =
     moved_segment f pid wrote (Some (at, width, v)) next t
     ∙ ap (λ xs. get_or xs t no_segment) (segments_after_high f.segments at width v high)
@@ -135,7 +135,7 @@ high_owner d f o r wrote store next t shows =
 
 -- the bytes of each segment after the store
 high_bytes : (d : MachineDesc) (f : FlatState) (p : Copies) (c : Changes) (r : Running) (at width v t : ℕ)
-    → ((e n : ℕ) → length (read_by d p c e n).bytes ≡ 32) → ShowsSegment d f (read_by d p c) r t → IsWidth width → at % width ≡ 0 → 1073741824 ≤ at → IsShared f.segments r.pid.0 at width → has_bit r.held t ≡ true
+    → ((e n : ℕ) → length (read_by d p c e n).bytes ≡ 32) → ShowsSegment d f (read_by d p c) r t → IsWidth width → at % width ≡ 0 → 0x40000000 ≤ at → IsShared f.segments r.pid.0 at width → has_bit r.held t ≡ true
     → HoldBytes (read_after d p c (segment_extent (shape_of d) (segment_number at)) (offset_of at) width v) (segment_extent (shape_of d) t) 0 (get_or (segments_stored f at width v) t no_segment).bytes
 high_bytes d f p c r at width v t whole shows wide aligned high shared held =
     let i : ℕ = segment_number at in
@@ -154,7 +154,7 @@ high_bytes d f p c r at width v t whole shows wide aligned high shared held =
 
 -- a store in a segment
 pub high_stored : (d : MachineDesc) (f : FlatState) (p : Copies) (c : Changes) (r : Running) (wrote : Option (ℕ × ℕ)) (at width v next : ℕ)
-    → IsRunning d r → Shows d f (read_by d p c) r → IsWidth width → at % width ≡ 0 → 1073741824 ≤ at → IsShared f.segments r.pid.0 at width
+    → IsRunning d r → Shows d f (read_by d p c) r → IsWidth width → at % width ≡ 0 → 0x40000000 ≤ at → IsShared f.segments r.pid.0 at width
     → ShowsMemory d (moved f r.pid.0 wrote (Some (at, width, v)) next) (read_after d p c (segment_extent (shape_of d) (segment_number at)) (offset_of at) width v) r (bytes_next (process_at f r.pid.0).bytes (Some (at, width, v)))
 high_stored d f p c r wrote at width v next running shows wide aligned high shared =
     let g : FlatState = moved f r.pid.0 wrote (Some (at, width, v)) next in

@@ -55,24 +55,24 @@ mapped_near d p held a k is below near =
           let low_too : a + k < size = omega arith in
           let e : before_private (process_of d p) + (a + k) ≡ before_private (process_of d p) + a + k = omega arith in
           rw (lt-ltb a size low, lt-ltb (a + k) size low_too, e) refl
-      | inr past ↦ elim (cases_lt a 1073741824) [
+      | inr past ↦ elim (cases_lt a 0x40000000) [
         | inl gap ↦
             let past_too : size ≤ a + k = omega arith in
-            let gap_too : a + k < 1073741824 = omega arith in
-            rw (le-ltb a size past, le-ltb (a + k) size past_too, lt-ltb a 1073741824 gap, lt-ltb (a + k) 1073741824 gap_too) refl
+            let gap_too : a + k < 0x40000000 = omega arith in
+            rw (le-ltb a size past, le-ltb (a + k) size past_too, lt-ltb a 0x40000000 gap, lt-ltb (a + k) 0x40000000 gap_too) refl
         | inr high ↦
             let past_too : size ≤ a + k = omega arith in
-            let high_too : 1073741824 ≤ a + k = omega arith in
-            let segment : (a + k - 1073741824) / 65536 ≡ (a - 1073741824) / 65536 = omega arith in
-            let offset : (a + k - 1073741824) % 65536 ≡ (a - 1073741824) % 65536 + k = omega arith in
-            let inner : (a - 1073741824) % 65536 % 32 + k < 32 = omega arith in
-            rw (le-ltb a size past, le-ltb (a + k) size past_too, le-ltb a 1073741824 high, le-ltb (a + k) 1073741824 high_too, segment, offset) (shared_near d held ((a - 1073741824) / 65536) ((a - 1073741824) % 65536) k is inner)
+            let high_too : 0x40000000 ≤ a + k = omega arith in
+            let segment : (a + k - 0x40000000) / 0x10000 ≡ (a - 0x40000000) / 0x10000 = omega arith in
+            let offset : (a + k - 0x40000000) % 0x10000 ≡ (a - 0x40000000) % 0x10000 + k = omega arith in
+            let inner : (a - 0x40000000) % 0x10000 % 32 + k < 32 = omega arith in
+            rw (le-ltb a size past, le-ltb (a + k) size past_too, le-ltb a 0x40000000 high, le-ltb (a + k) 0x40000000 high_too, segment, offset) (shared_near d held ((a - 0x40000000) / 0x10000) ((a - 0x40000000) % 0x10000) k is inner)
       ]
     ]
 
 -- the first byte of an extent has this address, less what stands before the bytes that have addresses
 abbrev up : MachineDesc → ℕ → ℕ
-up d e = cond (nat_lt e (length d.processes)) 0 (1073741824 + 65536 * (e - length d.processes))
+up d e = cond (nat_lt e (length d.processes)) 0 (0x40000000 + 0x10000 * (e - length d.processes))
 
 abbrev down : MachineDesc → ℕ → ℕ → ℕ
 down d p e = cond (nat_lt e (length d.processes)) (before_private (process_of d p)) 0
@@ -98,7 +98,7 @@ private_lies d p a is below low =
       address = rw (lt-ltb p (length d.processes) below) (omega arith);
     }
 
-shared_lies : (d : MachineDesc) (p a s o : ℕ) → IsDescription d → s < length d.segments → o < (segment_of d s).size → a ≡ 1073741824 + 65536 * s + o → LiesAt d p a (length d.processes + s) o
+shared_lies : (d : MachineDesc) (p a s o : ℕ) → IsDescription d → s < length d.segments → o < (segment_of d s).size → a ≡ 0x40000000 + 0x10000 * s + o → LiesAt d p a (length d.processes + s) o
 shared_lies d p a s o is below low is_at =
     let whole : (segment_of d s).size % 32 ≡ 0 = segment_whole d s is below in
     let number : length d.processes + s - length d.processes ≡ s = omega arith in
@@ -108,7 +108,7 @@ shared_lies d p a s o is below low is_at =
       address = rw (le-ltb (length d.processes + s) (length d.processes) (omega arith), number) (omega arith);
     }
 
-shared_place : (d : MachineDesc) (p held a s o : ℕ) (at : Extent × ℕ) → IsDescription d → a ≡ 1073741824 + 65536 * s + o → mapped_shared d held s o ≡ Some at → LiesAtPlace d p a at
+shared_place : (d : MachineDesc) (p held a s o : ℕ) (at : Extent × ℕ) → IsDescription d → a ≡ 0x40000000 + 0x10000 * s + o → mapped_shared d held s o ≡ Some at → LiesAtPlace d p a at
 shared_place d p held a s o at is is_at e =
     let t = nat_lt s (length d.segments) && has_bit held s in
     go (t && nat_lt o (segment_of d s).size) refl
@@ -131,11 +131,11 @@ mapped_lies d p held a at is below e =
       | inl low ↦
           let found : ◌≡◌ {A = Option (Extent × ℕ)} (Some (record { 0 = p }, before_private (process_of d p) + a)) (Some at) = rw (lt-ltb a size low) at e in
           some_same (LiesAtPlace d p a) (record { 0 = p }, before_private (process_of d p) + a) at found (private_lies d p a is below low)
-      | inr past ↦ elim (cases_lt a 1073741824) [
-        | inl gap ↦ absurd (let none : ◌≡◌ {A = Option (Extent × ℕ)} None (Some at) = rw (le-ltb a size past, lt-ltb a 1073741824 gap) at e in cc)
+      | inr past ↦ elim (cases_lt a 0x40000000) [
+        | inl gap ↦ absurd (let none : ◌≡◌ {A = Option (Extent × ℕ)} None (Some at) = rw (le-ltb a size past, lt-ltb a 0x40000000 gap) at e in cc)
         | inr high ↦
-            let found : mapped_shared d held ((a - 1073741824) / 65536) ((a - 1073741824) % 65536) ≡ Some at = rw (le-ltb a size past, le-ltb a 1073741824 high) at e in
-            shared_place d p held a ((a - 1073741824) / 65536) ((a - 1073741824) % 65536) at is (omega arith) found
+            let found : mapped_shared d held ((a - 0x40000000) / 0x10000) ((a - 0x40000000) % 0x10000) ≡ Some at = rw (le-ltb a size past, le-ltb a 0x40000000 high) at e in
+            shared_place d p held a ((a - 0x40000000) / 0x10000) ((a - 0x40000000) % 0x10000) at is (omega arith) found
       ]
     ]
 

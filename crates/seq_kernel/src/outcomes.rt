@@ -1,4 +1,4 @@
-use seq_words::{LineNo, Me, Pid, Seg};
+use seq_words::{Element, LineNo, Me, Pid, Seg};
 
 /// What a process waits for.
 #[derive(Clone, Copy, Debug, PartialEq, Eq)]
@@ -70,6 +70,8 @@ pub enum Note {
     Sent(LineNo, u8),
     /// The line's port gave up a byte.
     Taken(LineNo),
+    /// The element stopped.
+    Stopped(Element),
     /// The event that is no turn was made.
     Made,
 }

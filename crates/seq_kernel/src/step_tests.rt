@@ -2,8 +2,7 @@
 ghost use Rattle.std.specs.Prelude.{◌≡◌, ◌+◌, ◌%◌, ◌<◌, ◌≤◌, [], ◌∷◌, None, length, IfOk};
 ghost use Rattle.std.proofs.Props.{props};
 ghost use Rattle.seq_words.specs.Description.{IsDescription, process_of};
-ghost use Rattle.seq_memory.specs.States.{empty_element};
-ghost use Rattle.seq_layout.specs.Places.{start_of, IsPlace};
+ghost use Rattle.seq_layout.specs.Places.{IsPlace};
 ghost use Rattle.seq_layout.specs.Shapes.{shape_of};
 ghost use Rattle.seq_layout.specs.Copies.{Matches, copies};
 ghost use Rattle.seq_kernel.specs.Bounds.{IsRunning, AreReadable};
@@ -12,12 +11,12 @@ use crate::{Cause, Outcome, call, grant, step};
 use seq_cache::Cache;
 use seq_flat::End;
 use seq_layout::{Extent, Layout};
-use seq_memory::{Memories, MemoryElement, State};
+use seq_memory::Memories;
 use seq_pair::Pair;
 use seq_process::{Running, save};
 use seq_samples::two_images;
 use seq_words::{
-    Block, Bytes, Half, Items, MachineDesc, Me, NoMemory, Pid, Regs, Seg, has_bit, set_block_word,
+    Block, Bytes, Half, MachineDesc, NoMemory, Pid, Regs, Seg, has_bit, set_block_word,
 };
 use std::alloc::Global;
 use std::process::Abort;
@@ -30,7 +29,6 @@ const PRIVATE: u32 = 16;
 // Two processes of 128 and 32 bytes, of which the first owns line 0, and four segments of 32 bytes.
 fn description(alloc: Global) -> Result<MachineDesc, NoMemory>
     ensures described { IfOk result IsDescription }
-    ensures memories { IfOk result (λ d. d.memories ≡ 2) }
     ensures quantum { IfOk result (λ d. d.quantum ≡ 1000) }
     ensures journal { IfOk result (λ d. d.journal ≡ 32) }
     ensures segments { IfOk result (λ d. length d.segments ≡ 4) }
@@ -43,29 +41,14 @@ fn description(alloc: Global) -> Result<MachineDesc, NoMemory>
     Ok(desc)
 }
 
-// A memory in service, with room for what it keeps. All of it is zero.
-fn memory(alloc: Global, layout: &Layout, me: Me) -> Result<MemoryElement, NoMemory>
-    requires { me.0 < layout.now.memories }
-    ensures { IfOk result (λ m. m ≡ empty_element State.InService (start_of layout.now.memories layout.now.blocks me.0 (length layout.now.blocks)) (start_of layout.now.memories layout.now.words me.0 (length layout.now.words))) }
-{
-    MemoryElement::new(alloc, layout.block_count(me), layout.word_count(me))
-}
-
-// Two such memories.
-fn two_memories(alloc: Global, desc: &MachineDesc, layout: &Layout) -> Result<Memories, NoMemory>
-    requires memories { layout.now.memories ≡ 2 }
-    requires shape { layout.now ≡ shape_of desc.now }
+// Fresh memories.
+fn fresh(alloc: Global, desc: &MachineDesc, layout: &Layout) -> Result<Memories, NoMemory>
+    requires { layout.now ≡ shape_of desc.now }
     ensures matches { IfOk result (Matches layout.now) }
     ensures readable { IfOk result (λ m. AreReadable desc.now (copies layout.now m)) }
 {
-    let first = memory(alloc, layout, Me(0))?;
-    let second = memory(alloc, layout, Me(1))?;
-    let Ok(elements) = vec![in alloc; first, second] else {
-        return Err(NoMemory);
-    };
-    Ok(Memories {
-        elements: Items::from_vec(elements),
-    })
+    let memories = layout.memories(alloc)?;
+    Ok(memories)
 }
 
 // A machine with its memories.
@@ -90,7 +73,7 @@ struct Bench {
 fn new_bench(alloc: Global) -> Result<Bench, NoMemory> {
     let desc = description(alloc)?;
     let layout = Layout::new(alloc, &desc)?;
-    let memories = two_memories(alloc, &desc, &layout)?;
+    let memories = fresh(alloc, &desc, &layout)?;
     Ok(Bench {
         desc,
         layout,
@@ -270,10 +253,11 @@ fn having(held: u16, read: u32, written: u32) -> Kept {
     }
 }
 
-// A call that is answered, by a process that holds the same afterwards.
-fn answered(x10: u32, held: u16) -> After {
-    After::Answered(x10, having(held, 0, 0))
-}
+const NOTHING_KEPT: Kept = Kept {
+    held: 0,
+    read: 0,
+    written: 0,
+};
 
 // A block whose first word is an instruction.
 fn program(word: u32) -> Block {
@@ -319,24 +303,34 @@ const ECALL: u32 = 0x0000_0073;
 
 const EBREAK: u32 = 0x0010_0073;
 
-// An instruction, x6, and x5 afterwards.
-fn check_move(rt: &impl Abort, bench: &mut Bench, cache: &mut Cache, word: u32, x6: u32, x5: u32) {
-    let after = (Outcome::Done, After::Moved(x5));
-    check_step(rt, bench, cache, (word, x6), after);
-}
+/// An instruction, x6, and x5 afterwards.
+type Move = (u32, u32, u32);
 
 // What is stored is 5, which is loaded then.
+fn moves() -> [Move; 7] {
+    [
+        (ADD, 3, 10),
+        (LOAD, 0, LOAD),
+        (LOAD, 36, 0),
+        (STORE, 36, 55),
+        (LOAD, 36, 5),
+        (STORE, 0x4001_001c, 55),
+        (LOAD, 0x4001_001c, 5),
+    ]
+}
+
+fn check_moves(rt: &impl Abort, bench: &mut Bench, cache: &mut Cache, rows: &[Move]) {
+    for (word, x6, x5) in rows {
+        let after = (Outcome::Done, After::Moved(*x5));
+        check_step(rt, bench, cache, (*word, *x6), after);
+    }
+}
+
 #[test]
 fn instructions(rt: HostRuntime) -> Result<(), NoMemory> {
     let mut bench = new_bench(rt.alloc())?;
     let mut cache = Cache::new(rt.alloc(), 16)?;
-    check_move(&rt, &mut bench, &mut cache, ADD, 3, 10);
-    check_move(&rt, &mut bench, &mut cache, LOAD, 0, LOAD);
-    check_move(&rt, &mut bench, &mut cache, LOAD, 36, 0);
-    check_move(&rt, &mut bench, &mut cache, STORE, 36, 55);
-    check_move(&rt, &mut bench, &mut cache, LOAD, 36, 5);
-    check_move(&rt, &mut bench, &mut cache, STORE, 0x4001_001c, 55);
-    check_move(&rt, &mut bench, &mut cache, LOAD, 0x4001_001c, 5);
+    check_moves(&rt, &mut bench, &mut cache, &moves());
     assert_eq!(rt; cache.dirty(), 2);
     Ok(())
 }
@@ -349,27 +343,37 @@ fn check_context(rt: &impl Abort, trapped: &Running, code: u8) {
     assert!(rt; context.is_some_and(|c| c.held == 0 && c.commits == 4 && c.regs.pc == 0));
 }
 
-// An instruction, x6, and the cause of the trap.
-fn check_trap(rt: &impl Abort, bench: &mut Bench, cache: &mut Cache, word: u32, x6: u32, code: u8) {
-    let flush = Outcome::NeedsFlush(Cause::Trap);
-    let after = After::Ended(End::Trapped(code, 0));
-    let trapped = check_step(rt, bench, cache, (word, x6), (flush, after));
-    check_context(rt, &trapped, code);
+/// An instruction, x6, and the cause of the trap.
+type Trap = (u32, u32, u8);
+
+fn all_traps() -> [Trap; 9] {
+    [
+        (EBREAK, 0, 3),
+        (0, 0, 2),
+        (LOAD, 128, 5),
+        (LOAD, 0x4002_0000, 5),
+        (LOAD, 38, 4),
+        (STORE, 38, 6),
+        (STORE, 128, 7),
+        (STORE, 0x4002_0000, 7),
+        (JUMP, 6, 0),
+    ]
+}
+
+fn check_traps(rt: &impl Abort, bench: &mut Bench, cache: &mut Cache, rows: &[Trap]) {
+    for (word, x6, code) in rows {
+        let flush = Outcome::NeedsFlush(Cause::Trap);
+        let after = After::Ended(End::Trapped(*code, 0));
+        let trapped = check_step(rt, bench, cache, (*word, *x6), (flush, after));
+        check_context(rt, &trapped, *code);
+    }
 }
 
 #[test]
 fn traps(rt: HostRuntime) -> Result<(), NoMemory> {
     let mut bench = new_bench(rt.alloc())?;
     let mut cache = Cache::new(rt.alloc(), 16)?;
-    check_trap(&rt, &mut bench, &mut cache, EBREAK, 0, 3);
-    check_trap(&rt, &mut bench, &mut cache, 0, 0, 2);
-    check_trap(&rt, &mut bench, &mut cache, LOAD, 128, 5);
-    check_trap(&rt, &mut bench, &mut cache, LOAD, 0x4002_0000, 5);
-    check_trap(&rt, &mut bench, &mut cache, LOAD, 38, 4);
-    check_trap(&rt, &mut bench, &mut cache, STORE, 38, 6);
-    check_trap(&rt, &mut bench, &mut cache, STORE, 128, 7);
-    check_trap(&rt, &mut bench, &mut cache, STORE, 0x4002_0000, 7);
-    check_trap(&rt, &mut bench, &mut cache, JUMP, 6, 0);
+    check_traps(&rt, &mut bench, &mut cache, &all_traps());
     assert_eq!(rt; cache.dirty(), 0);
     Ok(())
 }
@@ -383,64 +387,86 @@ fn check_outside(rt: &impl Abort, bench: &Bench, cache: &mut Cache, pc: u32) {
     assert!(rt; is_same(&r, &wanted), "{pc:#x} {r:?}");
 }
 
+fn check_all_outside(rt: &impl Abort, bench: &Bench, cache: &mut Cache, places: &[u32]) {
+    for pc in places {
+        check_outside(rt, bench, cache, *pc);
+    }
+}
+
 #[test]
 fn a_pc_outside(rt: HostRuntime) -> Result<(), NoMemory> {
     let bench = new_bench(rt.alloc())?;
     let mut cache = Cache::new(rt.alloc(), 16)?;
-    check_outside(&rt, &bench, &mut cache, 128);
-    check_outside(&rt, &bench, &mut cache, 0x4002_0000);
-    check_outside(&rt, &bench, &mut cache, 0xffff_fffc);
+    check_all_outside(&rt, &bench, &mut cache, &[128, 0x4002_0000, 0xffff_fffc]);
     Ok(())
 }
 
-// A call of self, and a step of it, where half b is struck in a register.
-fn check_struck(
-    rt: &impl Abort,
-    bench: &Bench,
-    cache: &mut Cache,
-    reg: u8,
-    outcome: Outcome,
-    after: After,
-) {
-    let whole = bench.running(rt, asks([5, 0, 0, 0]), having(0, 0, 0));
-    assert!(rt; 1 <= reg && reg < 32);
-    let mut called = bench.struck(whole, reg);
+/// A register in which half b is struck, and what comes of a call of self.
+type Strike = (u8, Outcome, After);
+
+// What x9 holds is no part of a call; each of x10 to x17 is.
+fn strikes() -> [Strike; 4] {
+    [
+        (9, Outcome::Done, After::Answered(0, NOTHING_KEPT)),
+        (10, Outcome::Diverged, After::Same),
+        (11, Outcome::Diverged, After::Same),
+        (17, Outcome::Diverged, After::Same),
+    ]
+}
+
+// The call, and a step of it.
+fn check_struck(rt: &impl Abort, bench: &Bench, cache: &mut Cache, (reg, outcome, after): &Strike) {
+    let whole = bench.running(rt, asks([5, 0, 0, 0]), NOTHING_KEPT);
+    assert!(rt; 1 <= *reg && *reg < 32);
+    let mut called = bench.struck(whole, *reg);
     let mut stepped = called;
-    let wanted = expected(&called, after);
-    assert_eq!(rt; bench.call(&mut called, cache), outcome, "{reg}");
+    let wanted = expected(&called, *after);
+    assert_eq!(rt; bench.call(&mut called, cache), *outcome, "{reg}");
     assert!(rt; is_same(&called, &wanted), "{reg} {called:?}");
-    assert_eq!(rt; bench.step(&mut stepped, cache), outcome, "{reg}");
+    assert_eq!(rt; bench.step(&mut stepped, cache), *outcome, "{reg}");
     assert!(rt; is_same(&stepped, &wanted), "{reg} {stepped:?}");
 }
 
-// What x9 holds is no part of a call; each of x10 to x17 is.
+fn check_strikes(rt: &impl Abort, bench: &Bench, cache: &mut Cache, rows: &[Strike]) {
+    for row in rows {
+        check_struck(rt, bench, cache, row);
+    }
+}
+
 #[test]
 fn a_struck_half(rt: HostRuntime) -> Result<(), NoMemory> {
     let mut bench = new_bench(rt.alloc())?;
     bench.set_block(PRIVATE, &program(ECALL));
     let mut cache = Cache::new(rt.alloc(), 16)?;
-    check_struck(&rt, &bench, &mut cache, 9, Outcome::Done, answered(0, 0));
-    check_struck(&rt, &bench, &mut cache, 10, Outcome::Diverged, After::Same);
-    check_struck(&rt, &bench, &mut cache, 11, Outcome::Diverged, After::Same);
-    check_struck(&rt, &bench, &mut cache, 17, Outcome::Diverged, After::Same);
+    check_strikes(&rt, &bench, &mut cache, &strikes());
     assert_eq!(rt; cache.dirty(), 0);
     Ok(())
 }
 
-// The step of an acquire: what is held before it, the segment, and what is held after it.
-fn check_grant(rt: &impl Abort, bench: &Bench, &(held, segment, after): &(u16, u8, u16)) {
-    let mut r = bench.running(rt, asks([1, segment as u32, 0, 0]), having(held, 4, 5));
-    let wanted = expected(&r, After::Answered(0, having(after, 4, 5)));
-    assert!(rt; segment < 16 && !has_bit(r.held, segment));
-    grant(&mut r, Seg(segment));
+/// The step of an acquire: what is held before it, the segment, and what is held after it.
+type Grant = (u16, u8, u16);
+
+fn all_grants() -> [Grant; 4] {
+    [(0, 0, 1), (1, 1, 3), (3, 2, 7), (0, 2, 4)]
+}
+
+fn check_grant(rt: &impl Abort, bench: &Bench, (held, segment, after): &Grant) {
+    let mut r = bench.running(rt, asks([1, *segment as u32, 0, 0]), having(*held, 4, 5));
+    let wanted = expected(&r, After::Answered(0, having(*after, 4, 5)));
+    assert!(rt; *segment < 16 && !has_bit(r.held, *segment));
+    grant(&mut r, Seg(*segment));
     assert!(rt; is_same(&r, &wanted), "{held} {segment} {r:?}");
+}
+
+fn check_grants(rt: &impl Abort, bench: &Bench, rows: &[Grant]) {
+    for row in rows {
+        check_grant(rt, bench, row);
+    }
 }
 
 #[test]
 fn grants(rt: HostRuntime) -> Result<(), NoMemory> {
     let bench = new_bench(rt.alloc())?;
-    for row in &[(0, 0, 1), (1, 1, 3), (3, 2, 7), (0, 2, 4)] {
-        check_grant(&rt, &bench, row);
-    }
+    check_grants(&rt, &bench, &all_grants());
     Ok(())
 }

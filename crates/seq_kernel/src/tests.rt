@@ -1,9 +1,8 @@
 // Kernel calls on two memories, of a process that owns line 0 and may acquire segments 0 and 2 of three.
-ghost use Rattle.std.specs.Prelude.{◌≡◌, ◌<◌, ◌≤◌, [], ◌∷◌, length, None, IfOk};
+ghost use Rattle.std.specs.Prelude.{◌≡◌, ℕ, ◌<◌, ◌≤◌, Bool, [], ◌∷◌, length, None, IfOk};
 ghost use Rattle.std.proofs.Props.{props};
 ghost use Rattle.seq_words.specs.Description.{IsDescription};
 ghost use Rattle.seq_words.specs.declared.description.MachineDesc.{MachineDesc};
-ghost use Rattle.seq_memory.specs.declared.element.State.TheVariants.{InService};
 ghost use Rattle.seq_layout.specs.Shapes.{shape_of};
 ghost use Rattle.seq_layout.specs.Copies.{Matches, copies};
 ghost use Rattle.seq_samples.specs.Samples.{one_line};
@@ -12,17 +11,22 @@ ghost use Rattle.seq_kernel.specs.Bounds.{IsRunning, AreReadable};
 use crate::{Cause, Outcome, Reason, call};
 use seq_cache::Cache;
 use seq_flat::End;
-use seq_layout::{Extent, Layout};
-use seq_memory::{Memories, MemoryElement};
+use seq_layout::{Extent, Layout, WordAt};
+use seq_memory::Memories;
 use seq_pair::Pair;
 use seq_process::Running;
 use seq_samples::one_line;
-use seq_words::{Block, Half, Items, LineNo, MachineDesc, NoMemory, Pid, Regs, Seg};
+use seq_words::{Block, Half, LineNo, MachineDesc, NoMemory, Pid, Regs, Seg};
 use std::alloc::Global;
 use std::process::Abort;
 use std::test::Fail;
 
-/// A machine in which the journal of line 0 has so many bytes.
+/// The extents of the process and of line 0.
+const PROCESS: Extent = Extent(0);
+
+const LINE: Extent = Extent(4);
+
+/// A machine with its memories.
 #[derive(Drop)]
 struct Machine {
     desc: MachineDesc,
@@ -43,7 +47,6 @@ fn layout_of(alloc: Global, desc: &MachineDesc) -> Result<Layout, NoMemory>
     requires value { desc.now ≡ one_line }
     requires described { IsDescription desc.now }
     ensures shape { IfOk result (λ l. l ≡ shape_of desc.now) }
-    ensures memories { IfOk result (λ l. l.memories ≡ 2) }
     ensures blocks { IfOk result (λ l. l.blocks ≡ 18 ∷ 1 ∷ 1 ∷ 1 ∷ 1 ∷ []) }
     ensures words { IfOk result (λ l. l.words ≡ 1 ∷ 1 ∷ 1 ∷ 1 ∷ 3 ∷ []) }
 {
@@ -51,28 +54,46 @@ fn layout_of(alloc: Global, desc: &MachineDesc) -> Result<Layout, NoMemory>
     Ok(layout)
 }
 
+// A word of line 0.
+fn line_word(word: u32) -> WordAt
+    ensures extent { result.extent.0 ≡ 4 }
+    ensures word { result.word ≡ word }
+{
+    WordAt { extent: LINE, word }
+}
+
 // A block whose bytes are all the same.
 fn filled(byte: u8) -> Block {
     Block { bytes: [byte; 32] }
 }
 
-// A memory with a copy of all of that machine. The bytes of the process are 5, and those of the journal 9.
-fn memory(alloc: Global, arrived: u64, closed: u64, sent: u64) -> Result<MemoryElement, NoMemory>
+// Sets a copy of the process's bytes, of the journal and of the words of line 0. The bytes of the process are 5, and those of
+// the journal 9.
+fn set_copy(
+    memories: &mut Memories,
+    layout: &Layout,
+    shadow: bool,
+    arrived: u64,
+    closed: u64,
+    sent: u64,
+)
+    requires matches { Matches layout.now memories.old }
+    requires blocks { layout.now.blocks ≡ 18 ∷ 1 ∷ 1 ∷ 1 ∷ 1 ∷ [] }
+    requires words { layout.now.words ≡ 1 ∷ 1 ∷ 1 ∷ 1 ∷ 3 ∷ [] }
+    requires small { (e n : ℕ) (c : Bool) → (copies layout.now memories.old).word e n c ≤ 32 }
     requires arrived { arrived ≤ 32 }
     requires closed { closed ≤ 1 }
     requires sent { sent ≤ 32 }
-    ensures state { IfOk result (λ m. m.state ≡ InService) }
-    ensures blocks { IfOk result (λ m. length m.blocks ≡ 22) }
-    ensures words { IfOk result (λ m. m.words ≡ 0 ∷ 0 ∷ 0 ∷ 0 ∷ arrived ∷ closed ∷ sent ∷ []) }
+    ensures matches { Matches layout.now memories.new }
+    ensures state { (copies layout.now memories.new).state ≡ (copies layout.now memories.old).state }
+    ensures small { (e n : ℕ) (c : Bool) → (copies layout.now memories.new).word e n c ≤ 32 }
 {
-    let mut memory = MemoryElement::new(alloc, 22, 7)?;
-    memory.write_block(16, &filled(5));
-    memory.write_block(17, &filled(5));
-    memory.write_block(21, &filled(9));
-    memory.write_word(4, arrived);
-    memory.write_word(5, closed);
-    memory.write_word(6, sent);
-    Ok(memory)
+    layout.write_block(memories, PROCESS, 16, shadow, &filled(5));
+    layout.write_block(memories, PROCESS, 17, shadow, &filled(5));
+    layout.write_block(memories, LINE, 0, shadow, &filled(9));
+    layout.write_word(memories, line_word(0), shadow, arrived);
+    layout.write_word(memories, line_word(1), shadow, closed);
+    layout.write_word(memories, line_word(2), shadow, sent);
 }
 
 // That machine, where so many bytes have arrived on line 0 and were sent from it, and it is closed or not.
@@ -83,14 +104,9 @@ fn new_machine(alloc: Global, arrived: u64, closed: u64, sent: u64) -> Result<Ma
 {
     let desc = one_line(alloc)?;
     let layout = layout_of(alloc, &desc)?;
-    let first = memory(alloc, arrived, closed, sent)?;
-    let second = memory(alloc, arrived, closed, sent)?;
-    let Ok(elements) = vec![in alloc; first, second] else {
-        return Err(NoMemory);
-    };
-    let memories = Memories {
-        elements: Items::from_vec(elements),
-    };
+    let mut memories = layout.memories(alloc)?;
+    set_copy(&mut memories, &layout, false, arrived, closed, sent);
+    set_copy(&mut memories, &layout, true, arrived, closed, sent);
     Ok(Machine {
         desc,
         layout,
@@ -272,25 +288,33 @@ fn each_call_and_each_answer(rt: HostRuntime) -> Result<(), NoMemory> {
     check_calls(&rt, rt.alloc(), &machine, &calls())
 }
 
-// A read where so many bytes were read: its answer, and how many were read afterwards.
+/// How many bytes were read; what a read answers then, and how many were read afterwards.
+type Read = (u32, u32, u32);
+
 fn check_read(
     rt: &impl Abort,
     machine: &Machine,
     cache: &mut Cache,
-    (reads, answer, after): (u32, u32, u32),
+    (reads, answer, after): &Read,
 ) {
-    let mut r = machine.at(rt, (3, [0, 0, 0], 0, reads, 0));
-    assert_eq!(rt; machine.call(&mut r, cache), Outcome::Done);
-    assert_eq!(rt; r.pair.a.x[10], answer);
-    assert_eq!(rt; r.reads[0], after);
+    let mut r = machine.at(rt, (3, [0, 0, 0], 0, *reads, 0));
+    let found = machine.call(&mut r, cache);
+    assert_eq!(rt; found, Outcome::Done);
+    assert_eq!(rt; r.pair.a.x[10], *answer);
+    assert_eq!(rt; r.reads[0], *after);
+}
+
+fn check_reads(rt: &impl Abort, machine: &Machine, cache: &mut Cache, rows: &[Read]) {
+    for row in rows {
+        check_read(rt, machine, cache, row);
+    }
 }
 
 #[test]
 fn a_read_at_the_end_of_a_closed_line(rt: HostRuntime) -> Result<(), NoMemory> {
     let machine = new_machine(rt.alloc(), 2, 1, 0)?;
     let mut cache = Cache::new(rt.alloc(), 16)?;
-    check_read(&rt, &machine, &mut cache, (1, 9, 2));
-    check_read(&rt, &machine, &mut cache, (2, u32::MAX, 2));
+    check_reads(&rt, &machine, &mut cache, &[(1, 9, 2), (2, u32::MAX, 2)]);
     Ok(())
 }
 
@@ -306,76 +330,129 @@ fn check_part(rt: &impl Abort, cache: &Cache, &(block, first, end): &Part) -> Re
     Ok(())
 }
 
-// A write of so many bytes, where so many were written: the two blocks that it changes.
+/// How many bytes were written, and how many are to be; and the two blocks that the write changes.
+type Write = (u32, u32, Part, Part);
+
+// Across the end of a block, and across the end of the outbox.
+fn writes() -> [Write; 2] {
+    [
+        (210, 40, (14, 18, 32), (15, 0, 26)),
+        (250, 12, (15, 26, 32), (8, 0, 6)),
+    ]
+}
+
 fn check_write(
     rt: &impl Abort,
     alloc: Global,
     machine: &Machine,
-    (from, count): (u32, u32),
-    parts: &[Part; 2],
+    (from, count, first, second): &Write,
 ) -> Result<(), Fail> {
     let mut cache = Cache::new(alloc, 2)?;
-    let mut r = machine.at(rt, (4, [0, 0, count], 0, 0, from));
-    assert_eq!(rt; machine.call(&mut r, &mut cache), Outcome::Done);
-    assert_eq!(rt; r.writes[0].checked_sub(from), Some(count));
-    check_part(rt, &cache, &parts[0])?;
-    check_part(rt, &cache, &parts[1])
+    let mut r = machine.at(rt, (4, [0, 0, *count], 0, 0, *from));
+    let found = machine.call(&mut r, &mut cache);
+    assert_eq!(rt; found, Outcome::Done);
+    assert_eq!(rt; r.writes[0].checked_sub(*from), Some(*count));
+    check_part(rt, &cache, first)?;
+    check_part(rt, &cache, second)
 }
 
-// Across the end of a block, and across the end of the outbox.
+fn check_writes(
+    rt: &impl Abort,
+    alloc: Global,
+    machine: &Machine,
+    rows: &[Write],
+) -> Result<(), Fail> {
+    for row in rows {
+        check_write(rt, alloc, machine, row)?;
+    }
+    Ok(())
+}
+
 #[test]
 fn writes_across_ends(rt: HostRuntime) -> Result<(), Fail> {
     let machine = new_machine(rt.alloc(), 0, 0, 6)?;
-    let block_end = [(14, 18, 32), (15, 0, 26)];
-    let outbox_end = [(15, 26, 32), (8, 0, 6)];
-    check_write(&rt, rt.alloc(), &machine, (210, 40), &block_end)?;
-    check_write(&rt, rt.alloc(), &machine, (250, 12), &outbox_end)
+    check_writes(&rt, rt.alloc(), &machine, &writes())
 }
 
-// A write of so many bytes, where so many were written: what it comes to, the blocks changed, and the bytes written then.
+/// How many bytes were written, and how many are to be; and what the write comes to, the blocks changed, and the bytes written then.
+type Room = (u32, u32, Outcome, u32, u32);
+
+const ROOM: Outcome = Outcome::NeedsFlush(Cause::Room);
+
+fn rooms() -> [Room; 4] {
+    [
+        (16, 17, ROOM, 0, 16),
+        (16, 16, Outcome::Done, 1, 32),
+        (8, 24, Outcome::Done, 1, 32),
+        (31, 2, ROOM, 1, 31),
+    ]
+}
+
 fn check_room(
     rt: &impl Abort,
     machine: &Machine,
     cache: &mut Cache,
-    (from, count): (u32, u32),
-    (outcome, dirty, after): (Outcome, u32, u32),
+    (from, count, outcome, dirty, after): &Room,
 ) {
-    let mut r = machine.at(rt, (4, [0, 0, count], 0, 0, from));
-    assert_eq!(rt; machine.call(&mut r, cache), outcome);
-    assert_eq!(rt; cache.dirty(), dirty);
-    assert_eq!(rt; r.writes[0], after);
+    let mut r = machine.at(rt, (4, [0, 0, *count], 0, 0, *from));
+    let found = machine.call(&mut r, cache);
+    assert_eq!(rt; found, *outcome);
+    assert_eq!(rt; cache.dirty(), *dirty);
+    assert_eq!(rt; r.writes[0], *after);
+}
+
+fn check_rooms(rt: &impl Abort, machine: &Machine, cache: &mut Cache, rows: &[Room]) {
+    for row in rows {
+        check_room(rt, machine, cache, row);
+    }
 }
 
 #[test]
 fn a_write_at_the_last_free_block(rt: HostRuntime) -> Result<(), NoMemory> {
     let machine = new_machine(rt.alloc(), 0, 0, 0)?;
     let mut cache = Cache::new(rt.alloc(), 1)?;
-    let room = Outcome::NeedsFlush(Cause::Room);
-    let done = Outcome::Done;
-    check_room(&rt, &machine, &mut cache, (16, 17), (room, 0, 16));
-    check_room(&rt, &machine, &mut cache, (16, 16), (done, 1, 32));
-    check_room(&rt, &machine, &mut cache, (8, 24), (done, 1, 32));
-    check_room(&rt, &machine, &mut cache, (31, 2), (room, 1, 31));
+    check_rooms(&rt, &machine, &mut cache, &rooms());
     Ok(())
 }
 
-// A call of self, where either half was struck in this register.
-fn check_struck(rt: &impl Abort, machine: &Machine, cache: &mut Cache, reg: u8, outcome: Outcome) {
-    let mut first = machine.struck(rt, Half::A, reg);
-    assert_eq!(rt; machine.call(&mut first, cache), outcome, "{reg}");
-    let mut second = machine.struck(rt, Half::B, reg);
-    assert_eq!(rt; machine.call(&mut second, cache), outcome, "{reg}");
+/// A register in which a half is struck, and what a call of self comes to.
+type Strike = (u8, Outcome);
+
+fn strikes() -> [Strike; 6] {
+    [
+        (9, Outcome::Done),
+        (10, Outcome::Diverged),
+        (16, Outcome::Diverged),
+        (17, Outcome::Diverged),
+        (18, Outcome::Done),
+        (32, Outcome::Diverged),
+    ]
+}
+
+fn check_struck(
+    rt: &impl Abort,
+    machine: &Machine,
+    cache: &mut Cache,
+    half: Half,
+    (reg, outcome): &Strike,
+) {
+    let mut r = machine.struck(rt, half, *reg);
+    let found = machine.call(&mut r, cache);
+    assert_eq!(rt; found, *outcome, "{reg}");
+}
+
+// Either half is struck.
+fn check_strikes(rt: &impl Abort, machine: &Machine, cache: &mut Cache, rows: &[Strike]) {
+    for row in rows {
+        check_struck(rt, machine, cache, Half::A, row);
+        check_struck(rt, machine, cache, Half::B, row);
+    }
 }
 
 #[test]
 fn a_struck_half_at_a_call(rt: HostRuntime) -> Result<(), NoMemory> {
     let machine = new_machine(rt.alloc(), 0, 0, 0)?;
     let mut cache = Cache::new(rt.alloc(), 1)?;
-    check_struck(&rt, &machine, &mut cache, 9, Outcome::Done);
-    check_struck(&rt, &machine, &mut cache, 10, Outcome::Diverged);
-    check_struck(&rt, &machine, &mut cache, 16, Outcome::Diverged);
-    check_struck(&rt, &machine, &mut cache, 17, Outcome::Diverged);
-    check_struck(&rt, &machine, &mut cache, 18, Outcome::Done);
-    check_struck(&rt, &machine, &mut cache, 32, Outcome::Diverged);
+    check_strikes(&rt, &machine, &mut cache, &strikes());
     Ok(())
 }

@@ -1,7 +1,8 @@
 // Which statuses rule, who awaits recovery, and what a machine check names, on three memories that keep two processes.
-ghost use Rattle.std.specs.Prelude.{◌≡◌, ◌<◌, true, IfOk};
+ghost use Rattle.std.specs.Prelude.{◌≡◌, ◌≢◌, ◌<◌, true, IfOk};
 ghost use Rattle.seq_layout.specs.Places.{IsPlace};
-ghost use Rattle.seq_layout.specs.Copies.{Matches, copies, first_word, IsServed};
+ghost use Rattle.seq_memory.specs.declared.element.State.TheVariants.{Down};
+ghost use Rattle.seq_layout.specs.Copies.{Matches, copies, state_of, first_word, IsServed};
 ghost use Rattle.seq_status.specs.Words.{IsStatusWord};
 ghost use Rattle.seq_ruling.specs.Ruling.{status_in, ruling, NamesOneOf, HaveRulingWords, AreHeldByOneOf};
 
@@ -100,6 +101,27 @@ fn put(memories: &mut Memories, layout: &Layout, me: Me, state: State)
     }
 }
 
+// Whether the memory of a copy is up, so that the copy may be set.
+#[tactic(auto, using(crate::proofs::States::state_is))]
+fn is_up(memories: &Memories, layout: &Layout, extent: Extent, shadow: bool) -> bool
+    requires { Matches layout.now memories.now }
+    ensures { result ≡ true → state_of layout.now (copies layout.now memories.now) extent.0 shadow ≢ Down }
+{
+    let me = layout.memory(extent, shadow);
+    memories.elements.at(me.0 as usize).state != DOWN
+}
+
+// The status word of a process is copied back to its primary.
+fn copy_back(memories: &mut Memories, layout: &Layout, process: u8, word: u64)
+    requires { Matches layout.now memories.old }
+    ensures { Matches layout.now memories.new }
+{
+    let at = status_word(process);
+    if has_word(layout, at) && is_up(memories, layout, at.extent, false) {
+        layout.set_word(memories, at, false, word);
+    }
+}
+
 // Whether a status names none but the two processors.
 fn is_ours(status: &Status) -> bool
     ensures { result ≡ true → NamesOneOf 2 status.now }
@@ -188,8 +210,11 @@ fn ask(memories: &Memories, layout: &Layout) -> Answer
 // The status words of the two processes, each at its primary and at its shadow, and the states of the three memories.
 type Given = ((u64, u64), (u64, u64), [State; 3]);
 
-// What is asked of such memories: None where a process has no status word in service.
-fn answer_to(alloc: Global, given: &Given) -> Result<Option<Answer>, NoMemory> {
+// Memories that were given so.
+fn given_memories(alloc: Global, given: &Given) -> Result<(Layout, Memories), NoMemory>
+    ensures matches { IfOk result (λ m. Matches m.0 m.1) }
+    ensures processes { IfOk result (λ m. m.0.processes ≡ 2) }
+{
     let (layout, mut memories) = started(alloc)?;
     let (first, second, states) = *given;
     write(&mut memories, &layout, 0, first.0, first.1);
@@ -197,10 +222,36 @@ fn answer_to(alloc: Global, given: &Given) -> Result<Option<Answer>, NoMemory> {
     put(&mut memories, &layout, Me(0), states[0]);
     put(&mut memories, &layout, Me(1), states[1]);
     put(&mut memories, &layout, Me(2), states[2]);
-    if !are_ruled(&memories, &layout) {
-        return Ok(None);
+    Ok((layout, memories))
+}
+
+// What is asked of memories: None where a process has no status word in service.
+fn asked(memories: &Memories, layout: &Layout) -> Option<Answer>
+    requires matches { Matches layout.now memories.now }
+    requires processes { layout.now.processes ≡ 2 }
+{
+    if are_ruled(memories, layout) {
+        Some(ask(memories, layout))
+    } else {
+        None
     }
-    Ok(Some(ask(&memories, &layout)))
+}
+
+fn answer_to(alloc: Global, given: &Given) -> Result<Option<Answer>, NoMemory> {
+    let (layout, memories) = given_memories(alloc, given)?;
+    Ok(asked(&memories, &layout))
+}
+
+// The same, where these words of the two processes are copied back to their primaries.
+fn answer_after(
+    alloc: Global,
+    given: &Given,
+    back: (u64, u64),
+) -> Result<Option<Answer>, NoMemory> {
+    let (layout, mut memories) = given_memories(alloc, given)?;
+    copy_back(&mut memories, &layout, 0, back.0);
+    copy_back(&mut memories, &layout, 1, back.1);
+    Ok(asked(&memories, &layout))
 }
 
 // The words of a process, at its primary and at its shadow: the same, or such as a flush or a recovery leaves between two turns.
@@ -382,6 +433,89 @@ fn each_stop(rt: &impl Abort, alloc: Global, rows: &[Row]) -> Result<(), NoMemor
 #[test]
 fn stops_and_what_they_name(rt: HostRuntime) -> Result<(), NoMemory> {
     each_stop(&rt, rt.alloc(), &ROWS)
+}
+
+// What is given, and the words of the two processes that are copied back to their primaries; and what is answered then.
+type Returning = (
+    Given,
+    (u64, u64),
+    [Status; 2],
+    Option<Pid>,
+    [Option<Blocker>; 4],
+);
+
+const NEWER: (u64, u64) = (0x3_0001, 0xffff_ffff_0102);
+
+// A memory is copied back. The words that it has again don't rule before it is in service.
+const RETURNING: [Returning; 6] = [
+    // Its word says that process 0 is idle, or runs, or goes back; the shadow's says that its holder is gone.
+    (
+        (NEWER, IDLE, [STALE, UP, UP]),
+        (0, 0),
+        [Status::Pass1(DEAD), Status::Idle],
+        Some(Pid(0)),
+        [MEMORY_0, PROCESS_0, MEMORY_0, MEMORY_0],
+    ),
+    (
+        (NEWER, IDLE, [COPYING, UP, UP]),
+        (0x3_0001, 0),
+        [Status::Pass1(DEAD), Status::Idle],
+        Some(Pid(0)),
+        [MEMORY_0, PROCESS_0, MEMORY_0, MEMORY_0],
+    ),
+    (
+        (IDLE, IDLE, [COPYING, UP, UP]),
+        (0x3_0004, 0),
+        [Status::Idle, Status::Idle],
+        None,
+        [MEMORY_0, None, MEMORY_0, MEMORY_0],
+    ),
+    // So it is with process 1, and the word of process 0, whose primary is in service, rules at once.
+    (
+        (IDLE, NEWER, [UP, COPYING, UP]),
+        (0, 0x3_0001),
+        [Status::Idle, Status::Pass1(DEAD)],
+        Some(Pid(1)),
+        [MEMORY_1, MEMORY_1, PROCESS_1, MEMORY_1],
+    ),
+    (
+        (IDLE, RUNS, [UP, COPYING, UP]),
+        (0x3_0005, 0xffff_ffff_0101),
+        [Status::Forward(LIVE), Status::Run(LIVE)],
+        Some(Pid(0)),
+        [MEMORY_1, MEMORY_1, PROCESS_0, MEMORY_1],
+    ),
+    // A memory that is down takes no word.
+    (
+        (RUNS, IDLE, [DOWN, UP, UP]),
+        (0x3_0004, 0x3_0004),
+        [Status::Run(LIVE), Status::Back(LIVE)],
+        Some(Pid(1)),
+        [MEMORY_0, PROCESS_1, MEMORY_0, MEMORY_0],
+    ),
+];
+
+fn each_return(rt: &impl Abort, alloc: Global, rows: &[Returning]) -> Result<(), NoMemory> {
+    for (given, back, statuses, awaiting, named) in rows {
+        let wanted = Answer {
+            first: statuses[0],
+            second: statuses[1],
+            awaiting: *awaiting,
+            processor: named[0],
+            memory_0: named[1],
+            memory_1: named[2],
+            memory_2: named[3],
+            io: None,
+        };
+        let answer = answer_after(alloc, given, *back)?;
+        assert_eq!(rt; answer, Some(wanted), "{given:?} {back:?}");
+    }
+    Ok(())
+}
+
+#[test]
+fn words_that_are_back_do_not_rule(rt: HostRuntime) -> Result<(), NoMemory> {
+    each_return(&rt, rt.alloc(), &RETURNING)
 }
 
 // A status of each kind with this holder, which is live or not.
