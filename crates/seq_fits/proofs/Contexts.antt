@@ -9,7 +9,7 @@ use Rattle.seq_layout.specs.Contexts.{number_at}
 use Rattle.seq_layout.specs.Shapes.{shape_of, owner_from, owners_of}
 use Rattle.seq_layout.specs.Copies.{Copies, first_block}
 use Rattle.seq_layout.proofs.Owners.{entry_owns}
-use Rattle.seq_turns.specs.declared.events.Event.TheVariants as event
+use Rattle.seq_words.specs.declared.events.Event.TheVariants as event
 use Rattle.seq_turns.specs.Reading.{context_of}
 use Rattle.seq_turns.specs.Duties.{owner}
 use Rattle.seq_stands.specs.Grips.{grip}
@@ -25,13 +25,13 @@ four_writes : (d : MachineDesc) (p : Copies) (q : ℕ) → length (context_of d 
 unfolding context_of
 four_writes d p q = length-map-range_with_len (λ i. number_at (map (first_block (shape_of d) p q) (range_with_len 0 8)) (41 + 2 * i)) 0 4
 
-owner_is_process : (d : MachineDesc) (l : ℕ) → IsDescription d → l < line_count d → (owner d l).0.0 < length d.processes
+pub owner_is_process : (d : MachineDesc) (l : ℕ) → IsDescription d → l < line_count d → (owner d l).0.0 < length d.processes
 owner_is_process d l described below =
     let inside : l < length (owners_of d) = omega (arith, below, length-map-range_with_len (owner_from 0 d.processes) 0 (line_count d)) in
     (entry_owns d l (owner d l) described (slice_get-get_or (owners_of d) l (record { 0 = 0 }, 0) inside)).process
 
 pub contexts_serve : ContextsServe
-contexts_serve d m (event.Processor p) described st fit = λ q c e live.
+contexts_serve d m (event.Processor p) described st fit = λ q c e free live.
     let inside : q < length d.processes = Grips.process (subst (GripHolds (words_of d m) p.0) (ap grip e) (st.words.grips p.0)) in
     let is : ContextFits d (context_of d m.copies q) = fit.contexts q inside in
     record {
@@ -47,7 +47,7 @@ contexts_serve d m (event.Processor p) described st fit = λ q c e live.
       };
       zeros = (is.inside.zero, is.inside.zero);
     }
-contexts_serve d m (event.Io i) described st fit = record { writes = λ l below. (fit.contexts (owner d l).0.0 (owner_is_process d l described below)).writes (owner d l).1 }
+contexts_serve d m (event.Io i) described st fit = record { writes = λ l below steady. (fit.contexts (owner d l).0.0 (owner_is_process d l described below)).writes (owner d l).1 }
 contexts_serve d m (event.Input l byte) described st fit = tt
 contexts_serve d m (event.Close l) described st fit = tt
 contexts_serve d m (event.Fail e) described st fit = tt

@@ -36,7 +36,7 @@ use Rattle.seq_turns.specs.declared.hand.ReleaseAt.{ReleaseAt}
 use Rattle.seq_turns.specs.declared.hand.ReleaseAt.TheVariants as release
 use Rattle.seq_turns.specs.declared.recovery.RecoveryAt.{RecoveryAt}
 use Rattle.seq_turns.specs.declared.recovery.RecoveryAt.TheVariants as recovery
-use Rattle.seq_turns.specs.declared.events.Note.TheVariants.{Found}
+use Rattle.seq_kernel.specs.declared.outcomes.Note.TheVariants.{Found}
 use Rattle.seq_turns.specs.Functions.{lowest}
 use Rattle.seq_turns.specs.Machines.{Machine, Move, Turn, idles}
 use Rattle.seq_turns.specs.Machines.Turn.{Moves, Looks, Copies_unit, Stops}
@@ -229,12 +229,12 @@ module _ (d : MachineDesc) (described : IsDescription d) (m : Machine) (p : ℕ)
           next : (o : Option ℕ) → TurnFits (seeks d m p o)
           next (Some q) = (tt, cached)
           next None = looked (m.scan p)
-  turned takes (hand.Claiming q c) e is fits = cond_both (is_taken (shape_of d) m.copies c.at true) _ _ MoveFits (λ _. (tt, cached)) (λ _. (taken (end_of (context_of d m.copies q.0)) refl, empty_is (m.cache p) cached))
+  turned takes (hand.Claiming q c) e is fits = cond_both (is_taken (shape_of d) m.copies c.at true) _ _ MoveFits (λ _. (tt, cached)) (λ free. (taken free (end_of (context_of d m.copies q.0)) refl, empty_is (m.cache p) cached))
     where
-      taken : (x : End) → end_of (context_of d m.copies q.0) ≡ x → HandFits d (taken_up d m q.0 x)
-      taken Live i = (takes.within q.0 c e i, i)
-      taken (Exited code) i = tt
-      taken (Trapped code pc) i = tt
+      taken : is_taken (shape_of d) m.copies c.at true ≡ false → (x : End) → end_of (context_of d m.copies q.0) ≡ x → HandFits d (taken_up d m q.0 x)
+      taken free Live i = (takes.within q.0 c e free i, i)
+      taken free (Exited code) i = tt
+      taken free (Trapped code pc) i = tt
   turned takes (hand.Running r) e is fits = go (copied_memory d m.copies)
     where
       go : (o : Option ℕ) → TurnFits (runs_or_copies d m p r o)

@@ -9,8 +9,8 @@ use Rattle.seq_process.specs.declared.running.Running.{Running}
 use Rattle.seq_cache.specs.Changes.{IsCache}
 use Rattle.seq_turns.specs.declared.hand.Hand.{Hand}
 use Rattle.seq_turns.specs.declared.hand.Hand.TheVariants as hand
-use Rattle.seq_turns.specs.declared.events.Element.TheVariants as element
-use Rattle.seq_turns.specs.declared.events.Event.TheVariants as event
+use Rattle.seq_words.specs.declared.kinds.Element.TheVariants as element
+use Rattle.seq_words.specs.declared.events.Event.TheVariants as event
 use Rattle.seq_turns.specs.Functions.{update}
 use Rattle.seq_turns.specs.Machines.{Machine, Turn}
 use Rattle.seq_turns.specs.Machines.Turn.{Moves, Looks, Copies_unit, Stops}
@@ -36,7 +36,7 @@ start_hands_fit d image described = record {
 struck_fits : (d : MachineDesc) (r : Running) (half : Half) (reg mask : ℕ) → r.pair.struck ≢ Some (other_half half) → ProcessFits d r → ProcessFits d (record r { pair = struck r.pair half reg mask })
 struck_fits d r half reg mask ne is = (let kept = strikes_keep_bounds d r half reg mask ne in record { within = kept.0 is.within; zeros = kept.1 is.zeros })
 
-strikes_fits : (d : MachineDesc) (half : Half) (reg mask : ℕ) (h : Hand) → MayStrike half h → HandFits d h → HandFits d (strikes half reg mask h)
+pub strikes_fits : (d : MachineDesc) (half : Half) (reg mask : ℕ) (h : Hand) → MayStrike half h → HandFits d h → HandFits d (strikes half reg mask h)
 strikes_fits d half reg mask hand.Down ne k = tt
 strikes_fits d half reg mask hand.Seek ne k = tt
 strikes_fits d half reg mask (hand.Claiming q c) ne k = tt
@@ -47,7 +47,7 @@ strikes_fits d half reg mask (hand.Unlocking r c held l) ne k = (struck_fits d r
 strikes_fits d half reg mask (hand.Leaving q l) ne k = tt
 strikes_fits d half reg mask (hand.Recovering r) ne k = tt
 
-back_fits : (d : MachineDesc) (h : Hand) → HandFits d h → HandFits d (comes_back h)
+pub back_fits : (d : MachineDesc) (h : Hand) → HandFits d h → HandFits d (comes_back h)
 back_fits d hand.Down k = tt
 back_fits d hand.Seek k = tt
 back_fits d (hand.Claiming q c) k = tt

@@ -1,3 +1,17 @@
+pub mod Steps
+pub mod Blocks
+pub mod Saved
+pub mod Held
+pub mod Changed
+pub mod Written
+pub mod Counted
+pub mod Turned
+pub mod Ports
+pub mod Fitting
+pub mod Unfailed
+pub mod Gives
+pub mod Image
+pub mod Numbers
 pub mod Hands
 pub mod Law
 pub mod Changes

@@ -5,7 +5,7 @@ use Rattle.seq_words.specs.Description.{IsDescription, process_of}
 use Rattle.seq_words.specs.declared.description.MachineDesc.{MachineDesc}
 use Rattle.seq_layout.specs.Contexts.{IsContext}
 use Rattle.seq_layout.specs.declared.context.Context.{Context}
-use Rattle.seq_turns.specs.declared.events.Event.{Event}
+use Rattle.seq_words.specs.declared.events.Event.{Event}
 use Rattle.seq_turns.specs.Machines.{Machine}
 use Rattle.seq_turns.specs.Reading.{context_of}
 use Rattle.seq_stands.specs.Standing.{Stands}

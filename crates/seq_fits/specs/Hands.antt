@@ -15,10 +15,12 @@ use Rattle.seq_kernel.specs.declared.outcomes.Cause.{Cause}
 use Rattle.seq_kernel.specs.declared.outcomes.Cause.TheVariants as cause
 use Rattle.seq_locks.specs.declared.claim.Claim.{Claim}
 use Rattle.seq_locks.specs.declared.stages.Shadow.{Shadow}
+use Rattle.seq_locks.specs.Turns.{is_taken}
+use Rattle.seq_layout.specs.Shapes.{shape_of}
 use Rattle.seq_turns.specs.declared.hand.Hand.{Hand}
 use Rattle.seq_turns.specs.declared.hand.Hand.TheVariants as hand
-use Rattle.seq_turns.specs.declared.events.Event.{Event}
-use Rattle.seq_turns.specs.declared.events.Event.TheVariants as event
+use Rattle.seq_words.specs.declared.events.Event.{Event}
+use Rattle.seq_words.specs.declared.events.Event.TheVariants as event
 use Rattle.seq_turns.specs.Machines.{Machine}
 use Rattle.seq_turns.specs.Reading.{context_of}
 use Rattle.seq_turns.specs.Start.{start}
@@ -67,9 +69,9 @@ pub record HandsFit (d : MachineDesc) (m : Machine) : Type 0 where
   pub hands : (p : ℕ) → HandFits d (m.hand p)
   pub caches : (p : ℕ) → IsCache (m.cache p)
 
--- a live process that processor p takes up is within its bounds
+-- a live process whose claim processor p holds, and that it takes up then, is within its bounds
 abbrev pub TakesWithin : MachineDesc → Machine → ℕ → Type 0
-TakesWithin d m p = (q : ℕ) (c : Claim Shadow) → m.hand p ≡ hand.Claiming (record { 0 = q }) c → end_of (context_of d m.copies q) ≡ Live → ProcessFits d (started (record { 0 = q }) (context_of d m.copies q))
+TakesWithin d m p = (q : ℕ) (c : Claim Shadow) → m.hand p ≡ hand.Claiming (record { 0 = q }) c → is_taken (shape_of d) m.copies c.at true ≡ false → end_of (context_of d m.copies q) ≡ Live → ProcessFits d (started (record { 0 = q }) (context_of d m.copies q))
 
 -- what an event takes from the memories: only a processor's turn takes anything
 pub record TurnTakes (d : MachineDesc) (m : Machine) (p : ℕ) : Type 0 where
