@@ -28,12 +28,12 @@ use Rattle.seq_turns.specs.declared.hand.FlushAt.TheVariants as flush
 use Rattle.seq_blocks.specs.Apart.{HandsAreApart, number_of, owners_of, FlushesCommitAlone}
 
 -- the process of a hand that has extents
-record Has (d : MachineDesc) (h : Hand) (e : ℕ) : Type 0 where
-  process : ℕ
-  firm : Firm h process
-  inside : in_area d process (segments_of d h) e ≡ true
+pub record Has (d : MachineDesc) (h : Hand) (e : ℕ) : Type 0 where
+  pub process : ℕ
+  pub firm : Firm h process
+  pub inside : in_area d process (segments_of d h) e ≡ true
 
-has : (d : MachineDesc) (h : Hand) (e : ℕ) → hand_area d h e ≡ true → Has d h e
+pub has : (d : MachineDesc) (h : Hand) (e : ℕ) → hand_area d h e ≡ true → Has d h e
 has d hand.Down e is = absurd (false≢true is)
 has d hand.Seek e is = absurd (false≢true is)
 has d (hand.Claiming q c) e is = absurd (false≢true is)
@@ -45,7 +45,7 @@ has d (hand.Leaving q l) e is = absurd (false≢true is)
 has d (hand.Recovering x) e is = absurd (false≢true is)
 
 -- what a hand knows of a lock
-lock_claims : (d : MachineDesc) (owner : ℕ → ℕ) (p : Copies) (h : Hand) → HandLocks d owner p h → (t : ℕ) → t < length d.segments → LockClaims (lock_view d p t) (lock_grip d h t)
+pub lock_claims : (d : MachineDesc) (owner : ℕ → ℕ) (p : Copies) (h : Hand) → HandLocks d owner p h → (t : ℕ) → t < length d.segments → LockClaims (lock_view d p t) (lock_grip d h t)
 lock_claims d owner p hand.Down k t lt = tt
 lock_claims d owner p hand.Seek k t lt = tt
 lock_claims d owner p (hand.Claiming q c) k t lt = tt
@@ -62,29 +62,29 @@ whole_is (With q Half) is = absurd (false≢true is)
 whole_is (With q Whole) is = (q, refl)
 
 -- two that have hold of both copies of a lock are one
-one_owner : (v : View) (a b : ℕ) → (v.up1 ≡ false → v.up2 ≡ true) → LockClaims v (With a Whole) → LockClaims v (With b Whole) → a ≡ b
+pub one_owner : (v : View) (a b : ℕ) → (v.up1 ≡ false → v.up2 ≡ true) → LockClaims v (With a Whole) → LockClaims v (With b Whole) → a ≡ b
 one_owner v a b served ka kb = go (cases_Bool v.up1)
   where
     go : (v.up1 ≡ true) ⊎ (v.up1 ≡ false) → a ≡ b
     go (inl up) = let i = ka.0 up in let j = kb.0 up in omega (arith, i, j)
     go (inr out) = let i = ka.1 (served out) in let j = kb.1 (served out) in omega (arith, i, j)
 
-on_one : {a b : ℕ} {s s' : Stage} → On a s ≡ On b s' → a ≡ b
+pub on_one : {a b : ℕ} {s s' : Stage} → On a s ≡ On b s' → a ≡ b
 on_one e = cc
 
 module _ (d : MachineDesc) (owner : ℕ → ℕ) (m : Machine) (st : WordsStand (words_of d m)) (locks : LocksStand d owner m) where
-  inside : (p q : ℕ) → Firm (m.hand p) q → q < length d.processes
+  pub inside : (p q : ℕ) → Firm (m.hand p) q → q < length d.processes
   inside p q f = (subst (GripHolds (words_of d m) p) f.gripped (st.grips p)).process
 
   -- whose lock a hand has hold of
-  lock_of : (p q e t : ℕ) → Firm (m.hand p) q → segments_of d (m.hand p) t ≡ true → lock_grip d (m.hand p) t ≡ With q Whole
+  pub lock_of : (p q e t : ℕ) → Firm (m.hand p) q → segments_of d (m.hand p) t ≡ true → lock_grip d (m.hand p) t ≡ With q Whole
   lock_of p q e t f is =
       let whole = whole_is (lock_grip d (m.hand p) t) is in
       let other = firm_of d (m.hand p) t whole.0 Whole whole.1 in
       let same : whole.0 ≡ q = on_one (sym other.gripped ∙ f.gripped) in
       subst (λ x. lock_grip d (m.hand p) t ≡ With x Whole) same whole.1
 
-  clash : (p r q q' : ℕ) → r ≢ p → Firm (m.hand p) q → Firm (m.hand r) q' → q' ≡ q → ⊥
+  pub clash : (p r q q' : ℕ) → r ≢ p → Firm (m.hand p) q → Firm (m.hand r) q' → q' ≡ q → ⊥
   clash p r q q' ne f g same = ne (same_holder d m st r p q (named_firm d m st r q (subst (Firm (m.hand r)) same g)) (named_firm d m st p q f))
 
   meet : (p r e : ℕ) → r ≢ p → Has d (m.hand p) e → Has d (m.hand r) e → ⊥
@@ -111,7 +111,7 @@ hands_are_apart d owner m p r e st locks ne is = go (cases_Bool (hand_area d (m.
     go (inr out) = out
 
 -- who owns a segment is named by its number
-owner_named : (p : ℕ) (o : Option Pid) → is_owner p o ≡ true → number_of o ≡ suc p
+pub owner_named : (p : ℕ) (o : Option Pid) → is_owner p o ≡ true → number_of o ≡ suc p
 owner_named p None is = absurd (false≢true is)
 owner_named p (Some q) is = ap suc (eqb-true q.0 p is)
 

@@ -20,7 +20,7 @@ use Rattle.seq_image.specs.Areas.{AreAlike, served_in, CopyHolds}
 use Rattle.seq_image.specs.Flushing.{KeepsCopies}
 use Rattle.seq_turns.specs.Functions.{update_copy}
 use Rattle.seq_turns.specs.Machines.{copies_after}
-use Rattle.seq_turns.specs.Machines.Change.{Unchanged, To_block, To_word}
+use Rattle.seq_io.specs.Changes.Change.{Unchanged, To_block, To_word}
 use Rattle.seq_turns.specs.Reading.{write_word, write_block}
 
 -- a block that is written where its copy is in service

@@ -123,7 +123,7 @@ module _ (d : MachineDesc) (described : IsDescription d) (at : Committed) (m : M
   area_alone : segments ≡ wholes r 0
   area_alone = fun_ext (λ u. area_held u ∙ sym (or_both (has_bit r.held u) (has_bit 0 u) (has_bit r.held u) refl (no_bit u)) ∙ sym (whole_is (has_bit r.held u || has_bit 0 u) r.pid.0))
 
-  refused : AfterTurn d at m (finds d m p r c (cause.Wait (Lock t (record { 0 = word_at m.copies now.at true - 1 }))) 0)
+  pub refused : AfterTurn d at m (finds d m p r c (cause.Wait (Lock t (record { 0 = word_at m.copies now.at true - 1 }))) 0)
   refused = found_knows d described at m p r c (cause.Wait (Lock t (record { 0 = word_at m.copies now.at true - 1 }))) 0
       (works_same d at m.copies segments (wholes r 0) area_alone r c works) (both_same d at m.copies segments (wholes r 0) area_alone r.pid.0 r.pid.0 refl k.runs.both) k.runs.clean
       (record { lives = λ on. absurd on; given = λ u bit. absurd (false≢true (sym (no_bit u) ∙ bit)) })

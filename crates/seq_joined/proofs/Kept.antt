@@ -12,10 +12,10 @@ use Rattle.seq_flat.proofs.MoreInputs.{input_keeps_runs}
 use Rattle.seq_process.specs.declared.running.Running.{Running}
 use Rattle.seq_runs.proofs.Ahead.{input_keeps_ahead}
 use Rattle.seq_runs.proofs.Growth.{entry_goes_on}
-use Rattle.seq_turns.specs.declared.events.Element.{Element}
-use Rattle.seq_turns.specs.declared.events.Element.TheVariants as element
-use Rattle.seq_turns.specs.declared.events.Event.{Event}
-use Rattle.seq_turns.specs.declared.events.Event.TheVariants as event
+use Rattle.seq_words.specs.declared.kinds.Element.{Element}
+use Rattle.seq_words.specs.declared.kinds.Element.TheVariants as element
+use Rattle.seq_words.specs.declared.events.Event.{Event}
+use Rattle.seq_words.specs.declared.events.Event.TheVariants as event
 use Rattle.seq_turns.specs.Machines.{Machine, history_after}
 use Rattle.seq_turns.specs.Duties.{rests}
 use Rattle.seq_turns.specs.Allowed.{Allowed}
@@ -43,7 +43,7 @@ module _ (d : MachineDesc) (events : List Event) (at : Committed) (m : Machine) 
   open_for (event.Upset p half reg mask) may = tt
   open_for (event.Hangup l) may = tt
 
-  more : MoreInput at.inputs (arrived d (events ++ e ∷ []))
+  pub more : MoreInput at.inputs (arrived d (events ++ e ∷ []))
   more = subst (λ i. MoreInput i (arrived d (events ++ e ∷ []))) (sym st.input) (events_bring_more d events e (open_for e ok))
 
   -- with the new input the history leads to the same state

@@ -5,7 +5,7 @@ use Rattle.seq_words.specs.declared.description.MachineDesc.{MachineDesc}
 use Rattle.seq_flat.specs.declared.inputs.LineInput.{LineInput}
 use Rattle.seq_flat.specs.declared.state.FlatState.{FlatState}
 use Rattle.seq_flat.specs.Run.{flat_run, IsRight}
-use Rattle.seq_turns.specs.declared.events.Event.{Event}
+use Rattle.seq_words.specs.declared.events.Event.{Event}
 use Rattle.seq_turns.specs.Machines.{Machine}
 use Rattle.seq_turns.specs.Allowed.{Allowed}
 use Rattle.seq_turns.specs.Events.{after_io, happens}

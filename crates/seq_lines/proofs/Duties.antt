@@ -13,9 +13,9 @@ use Rattle.seq_flat.specs.Run.{output, IsPrefix}
 use Rattle.seq_runs.proofs.Growth.{prefix_length}
 use Rattle.seq_turns.specs.declared.hand.Hand.{Hand}
 use Rattle.seq_turns.specs.declared.hand.Hand.TheVariants as hand
-use Rattle.seq_turns.specs.declared.events.Note.TheVariants.{Sent}
+use Rattle.seq_kernel.specs.declared.outcomes.Note.TheVariants.{Sent}
 use Rattle.seq_turns.specs.Machines.{Machine, copies_after}
-use Rattle.seq_turns.specs.Machines.Change.{Unchanged}
+use Rattle.seq_io.specs.Changes.Change.{Unchanged}
 use Rattle.seq_turns.specs.Reading.{copied_memory}
 use Rattle.seq_turns.specs.Duties.{Duty, owner, has_steady_owner, written, outbox_at, accepted, goal, is_below, is_at, differs, journals, line_set, changes, nothing, closes, takes, tells_sent, may_send, duty, sent_after, after_duty, rests}
 use Rattle.seq_turns.proofs.Functions.{update_same, update_other, update_cases}

@@ -9,7 +9,7 @@ use Rattle.seq_flat.specs.Run.{output, IsPrefix}
 use Rattle.seq_layout.specs.Shapes.{shape_of, line_extent}
 use Rattle.seq_layout.specs.Copies.{Copies, serves}
 use Rattle.seq_runs.proofs.Growth.{prefix_length}
-use Rattle.seq_turns.specs.declared.io.PortState.{PortState}
+use Rattle.seq_io.specs.declared.element.PortState.{PortState}
 use Rattle.seq_turns.specs.Machines.{Machine}
 use Rattle.seq_lines.specs.Lines.{LineCopy, line_copy, PortStands, CopyStands, SentStands, sent_limit, LineStands}
 

@@ -6,8 +6,8 @@ use Rattle.seq_flat.specs.declared.inputs.LineInput.{LineInput}
 use Rattle.seq_flat.specs.declared.state.FlatState.{FlatState}
 use Rattle.seq_flat.specs.State.{input_at}
 use Rattle.seq_flat.specs.Run.{output}
-use Rattle.seq_turns.specs.declared.events.Event.{Event}
-use Rattle.seq_turns.specs.declared.events.Event.TheVariants as event
+use Rattle.seq_words.specs.declared.events.Event.{Event}
+use Rattle.seq_words.specs.declared.events.Event.TheVariants as event
 use Rattle.seq_turns.specs.Machines.{Machine}
 use Rattle.seq_turns.specs.Events.{happens, after_io}
 use Rattle.seq_lines.specs.Arrivals.{bytes_of, closes, Brings}

@@ -15,9 +15,9 @@ use Rattle.seq_flat.specs.Run.{output}
 use Rattle.seq_runs.proofs.Growth.{prefix_length}
 use Rattle.seq_turns.specs.declared.hand.Hand.{Hand}
 use Rattle.seq_turns.specs.declared.hand.Hand.TheVariants as hand
-use Rattle.seq_turns.specs.declared.io.PortState.{PortState}
-use Rattle.seq_turns.specs.declared.events.Event.{Event}
-use Rattle.seq_turns.specs.declared.events.Event.TheVariants as event
+use Rattle.seq_io.specs.declared.element.PortState.{PortState}
+use Rattle.seq_words.specs.declared.events.Event.{Event}
+use Rattle.seq_words.specs.declared.events.Event.TheVariants as event
 use Rattle.seq_turns.specs.Allowed.{MayArrive, MayClose}
 use Rattle.seq_turns.specs.Functions.{update}
 use Rattle.seq_turns.specs.Machines.{Machine}

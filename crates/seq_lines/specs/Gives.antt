@@ -14,7 +14,7 @@ use Rattle.seq_kernel.specs.Shown.{HoldsInput, Shows}
 use Rattle.seq_process.specs.declared.running.Running.{Running}
 use Rattle.seq_runs.specs.Areas.{OthersStay}
 use Rattle.seq_flat.specs.Reached.{IsReached, FitJournals}
-use Rattle.seq_turns.specs.declared.events.Event.{Event}
+use Rattle.seq_words.specs.declared.events.Event.{Event}
 use Rattle.seq_turns.specs.Machines.{Machine}
 use Rattle.seq_turns.specs.Start.{start as machine_start}
 use Rattle.seq_stands.specs.Service.{ServiceStands}

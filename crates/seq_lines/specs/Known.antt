@@ -17,7 +17,7 @@ use Rattle.seq_locks.specs.Turns.{is_taken}
 use Rattle.seq_turns.specs.declared.hand.Hand.{Hand}
 use Rattle.seq_turns.specs.declared.hand.Hand.TheVariants as hand
 use Rattle.seq_turns.specs.Machines.{Machine, Change, Turn}
-use Rattle.seq_turns.specs.Machines.Change.{Unchanged, To_block, To_word}
+use Rattle.seq_io.specs.Changes.Change.{Unchanged, To_block, To_word}
 use Rattle.seq_turns.specs.Machines.Turn.{Moves, Looks, Copies_unit, Stops}
 use Rattle.seq_turns.specs.Reading.{ruling}
 use Rattle.seq_turns.specs.Duties.{is_steady}

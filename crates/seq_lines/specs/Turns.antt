@@ -5,8 +5,8 @@ use Rattle.seq_words.specs.declared.description.MachineDesc.{MachineDesc}
 use Rattle.seq_flat.specs.declared.inputs.LineInput.{LineInput}
 use Rattle.seq_flat.specs.declared.state.FlatState.{FlatState}
 use Rattle.seq_flat.specs.Reached.{IsReached}
-use Rattle.seq_turns.specs.declared.events.Event.{Event}
-use Rattle.seq_turns.specs.declared.events.Event.TheVariants as event
+use Rattle.seq_words.specs.declared.events.Event.{Event}
+use Rattle.seq_words.specs.declared.events.Event.TheVariants as event
 use Rattle.seq_turns.specs.Machines.{Machine}
 use Rattle.seq_turns.specs.Processors.{turn}
 use Rattle.seq_turns.specs.Allowed.{Allowed}

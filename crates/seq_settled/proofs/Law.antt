@@ -34,7 +34,7 @@ calm_is_steady m (Back h) calm = absurd calm
 calm_is_steady m (Forward h) calm = absurd calm
 
 -- what isn't there takes no step
-nobody : (d : MachineDesc) (inputs : List LineInput) (f : FlatState) (q : ℕ) → length f.processes ≤ q → IsEnabled d inputs f q → ⊥
+pub nobody : (d : MachineDesc) (inputs : List LineInput) (f : FlatState) (q : ℕ) → length f.processes ≤ q → IsEnabled d inputs f q → ⊥
 unfolding step_or_wait
 nobody d inputs f q past ok = let none : nat_lt q (length f.processes) ≡ false = le-ltb q (length f.processes) past in false≢true (rw none at ok)
 

@@ -29,7 +29,7 @@ use Rattle.seq_image.proofs.ImageSizes.{process_whole, segment_whole}
 use Rattle.seq_image.proofs.OwnLines.{line_found}
 use Rattle.seq_image.proofs.ShownContexts.{line_numbered}
 use Rattle.seq_image.proofs.ContextsRead.{end_is}
-use Rattle.seq_turns.specs.Functions.{lowest, or_else}
+use Rattle.seq_ruling.specs.Lowest.{lowest, or_else}
 use Rattle.seq_turns.specs.Reading.{context_in}
 use Rattle.seq_turns.specs.Duties.{owner}
 use Rattle.seq_turns.proofs.Functions.{lowest_passes, lowest_none}
