@@ -1,0 +1,14 @@
+pub mod Here
+pub mod Plain
+pub mod Runs
+pub mod Processors
+pub mod Needs
+pub mod Flushes
+pub mod Local
+pub mod Starting
+pub mod Ports
+pub mod Serving
+pub mod Happening
+pub mod Settling
+pub mod Ready
+pub mod Making

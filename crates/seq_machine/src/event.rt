@@ -1,0 +1,126 @@
+// What the hardware makes of an event.
+ghost use Rattle.std.specs.Prelude.{◌≡◌, ℕ, ◌≤◌, [], length, Option, Some, IfOk, OnOk, IfErr, OnErr, IsSome};
+ghost use Rattle.seq_words.specs.Description.{line_count};
+ghost use Rattle.seq_words.specs.declared.events.Event.TheVariants as event;
+ghost use Rattle.seq_shelf.specs.Outlets.{views, marks};
+ghost use Rattle.seq_shelf.specs.Rows.{AllAccept};
+ghost use Rattle.seq_shelf.specs.Told.{Grows};
+ghost use Rattle.seq_turns.specs.Allowed.{Allowed};
+ghost use Rattle.seq_turns.specs.Events.{happens, note};
+ghost use Rattle.seq_fits.specs.Fit.{Fit};
+ghost use Rattle.seq_fits.specs.Numbers.{NumbersFit};
+ghost use Rattle.seq_fits.specs.Unfailed.{IsUnfailed, IsBuilt};
+ghost use Rattle.seq_machine.specs.Plain.{Outside, machine_of, outside_of, IsOutside, IsHardware};
+ghost use Rattle.seq_machine.specs.Starting.{no_outside};
+ghost use Rattle.seq_machine.specs.Processors.{MayTurn};
+ghost use Rattle.seq_machine.specs.Happening.{sent_in, entries_in, entries_of, ChronicleStops, StopsAtCommit, StopsFor};
+
+use crate::operations::commit_of;
+use crate::{Hardware, Note, Stop};
+use seq_shelf::{Chronicle, ChronicleError, Line, Outlet};
+use seq_words::{Entry, Event, Pe};
+
+// Tells an entry to the chronicle, if there is one.
+#[tactic(auto, using(crate::proofs::Unchanged::grows_same))]
+fn tell<C: Chronicle>(entry: Option<Entry>, chronicle: &mut C) -> Result<(), Stop>
+    ensures ok { OnOk result (Grows (C.chronicle chronicle.old).told (C.chronicle chronicle.new).told (entries_of entry)) }
+    ensures err { OnErr result ((C.chronicle chronicle.new).told ≡ (C.chronicle chronicle.old).told) }
+    ensures asked { OnErr result (IsSome entry) }
+    ensures cause { IfErr result (ChronicleStops (C.chronicle chronicle.old) (C.chronicle chronicle.new)) }
+{
+    let Some(entry) = entry else {
+        return Ok(());
+    };
+    match chronicle.append(entry.pid, entry.count) {
+        Ok(()) => Ok(()),
+        Err(ChronicleError::Fault) => Err(Stop::Chronicle),
+        Err(ChronicleError::NoMemory) => Err(Stop::NoMemory),
+    }
+}
+
+impl Hardware {
+    // The entry that a processor's next turn commits, if it commits one.
+    fn commit(&self, pe: Pe) -> Option<Entry>
+        requires hardware { IsHardware self.now }
+        requires may { MayTurn self.now pe.0 }
+        ensures { (o : Outside) → entries_of result ≡ entries_in (note self.now.desc (machine_of self.now o) (event.Processor pe)) }
+    {
+        let processor = self.processors.at(pe.0 as usize);
+        commit_of(&processor.hand, &processor.cache)
+    }
+
+    // A turn of a processor. What it commits is told to the chronicle first: where that fails, nothing has changed.
+    fn told_turn<C: Chronicle>(&mut self, pe: Pe, chronicle: &mut C) -> Result<Note, Stop>
+        requires hardware { IsHardware self.old }
+        requires may { MayTurn self.old pe.0 }
+        ensures machine { (o : Outside) → OnOk result (machine_of self.new (outside_of (happens self.old.desc (machine_of self.old o) (event.Processor pe))) ≡ happens self.old.desc (machine_of self.old o) (event.Processor pe)) }
+        ensures note { (o : Outside) → IfOk result (λ n. n ≡ note self.old.desc (machine_of self.old o) (event.Processor pe)) }
+        ensures entries { IfOk result (λ n. Grows (C.chronicle chronicle.old).told (C.chronicle chronicle.new).told (entries_in n)) }
+        ensures unsent { IfOk result (λ n. (l : ℕ) → sent_in n l ≡ []) }
+        ensures err { OnErr result (self.new ≡ self.old) }
+        ensures err_entries { OnErr result ((C.chronicle chronicle.new).told ≡ (C.chronicle chronicle.old).told) }
+        ensures cause { (o : Outside) → IfErr result (StopsAtCommit (note self.old.desc (machine_of self.old o) (event.Processor pe)) (C.chronicle chronicle.old) (C.chronicle chronicle.new)) }
+        ensures hardware { IsHardware self.new }
+        ensures desc { self.new.desc ≡ self.old.desc }
+    {
+        let entry = self.commit(pe);
+        tell(entry, chronicle)?;
+        let note = self.processor_turn(pe);
+        Ok(note)
+    }
+
+    /// Makes an event, which may be made: the machine is that of the table then, with the table's note. The lines accept the byte of
+    /// a note that says so and nothing else, and the chronicle gets the entry of a note that says so. After an error nothing has
+    /// changed: the line or the chronicle that the note would have asked has a fault, or was refused memory. So far no element
+    /// fails.
+    pub fn event<C: Chronicle>(
+        &mut self,
+        event: Event,
+        lines: &mut Vec<Outlet>,
+        chronicle: &mut C,
+    ) -> Result<Note, Stop>
+        requires hardware { IsHardware self.old }
+        requires fit { Fit self.old.desc (machine_of self.old no_outside) }
+        requires numbers { NumbersFit self.old.desc (machine_of self.old no_outside) }
+        requires unfailed { IsUnfailed self.old.desc (machine_of self.old no_outside) }
+        requires built { IsBuilt event }
+        requires allowed { Allowed self.old.desc (machine_of self.old no_outside) event }
+        requires lines { line_count self.old.desc ≤ length lines.old.items }
+        ensures machine { (o : Outside) → IsOutside (views line lines.old.items) (marks lines.old.items) o → OnOk result (machine_of self.new (outside_of (happens self.old.desc (machine_of self.old o) event)) ≡ happens self.old.desc (machine_of self.old o) event) }
+        ensures note { (o : Outside) → IsOutside (views line lines.old.items) (marks lines.old.items) o → IfOk result (λ n. n ≡ note self.old.desc (machine_of self.old o) event) }
+        ensures sent { IfOk result (λ n. AllAccept (views line lines.old.items) (views line lines.new.items) (sent_in n)) }
+        ensures entries { IfOk result (λ n. Grows (C.chronicle chronicle.old).told (C.chronicle chronicle.new).told (entries_in n)) }
+        ensures outside { (o : Outside) → IsOutside (views line lines.old.items) (marks lines.old.items) o → OnOk result (IsOutside (views line lines.new.items) (marks lines.new.items) (outside_of (happens self.old.desc (machine_of self.old o) event))) }
+
+        // After an error nothing has changed.
+        ensures err { OnErr result (self.new ≡ self.old) }
+        ensures err_lines { OnErr result (AllAccept (views line lines.old.items) (views line lines.new.items) (λ l. [])) }
+        ensures err_entries { OnErr result ((C.chronicle chronicle.new).told ≡ (C.chronicle chronicle.old).told) }
+        ensures cause { (o : Outside) → IsOutside (views line lines.old.items) (marks lines.old.items) o → IfErr result (StopsFor (note self.old.desc (machine_of self.old o) event) (views line lines.old.items) (views line lines.new.items) (C.chronicle chronicle.old) (C.chronicle chronicle.new)) }
+
+        // What the next event needs is kept.
+        ensures hung { marks lines.new.items ≡ marks lines.old.items }
+        ensures number { length lines.new.items ≡ length lines.old.items }
+        ensures hardware { IsHardware self.new }
+        ensures desc { self.new.desc ≡ self.old.desc }
+        ensures fit { Fit self.new.desc (machine_of self.new no_outside) }
+        ensures unfailed { IsUnfailed self.new.desc (machine_of self.new no_outside) }
+    {
+        match event {
+            Event::Processor(pe) => self.told_turn(pe, chronicle),
+            Event::Io(io) => self.io_turn(io, lines),
+            Event::Input(line, byte) => {
+                self.input(line, byte);
+                Ok(Note::Made)
+            }
+            Event::Close(line) => {
+                self.close(line);
+                Ok(Note::Made)
+            }
+            Event::Fail(_) => unreachable!(),
+            Event::Repair(_) => unreachable!(),
+            Event::Upset(_, _, _, _) => unreachable!(),
+            Event::Hangup(_) => unreachable!(),
+        }
+    }
+}

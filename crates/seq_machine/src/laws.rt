@@ -1,0 +1,14 @@
+// What a turn of an operation depends on, and what it comes to.
+ghost use Rattle.seq_machine.specs.Local.{OperationsAreLocal, OperationsMoveOrStop};
+
+/// A turn of a processor that is amid an operation depends on what the memories hold, and on its own cache and incarnation.
+#[tactic(auto, using(crate::proofs::Local::operations_are_local))]
+pub fn operations_are_local()
+    ensures { OperationsAreLocal }
+{}
+
+/// It moves the processor, or stops it.
+#[tactic(auto, using(crate::proofs::Local::operations_move_or_stop))]
+pub fn operations_move_or_stop()
+    ensures { OperationsMoveOrStop }
+{}

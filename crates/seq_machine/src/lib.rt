@@ -1,0 +1,27 @@
+//! The machine: processors, memories, I/O elements and ports together, and what each event makes of them.
+#![tactic(auto)]
+
+mod causes;
+mod claims;
+mod event;
+mod flushes;
+mod going;
+mod hardware;
+mod io;
+mod laws;
+mod operations;
+mod ports;
+mod processor;
+mod releases;
+mod run;
+mod runs;
+mod seeks;
+mod settled;
+mod start;
+mod turned;
+
+pub use hardware::{Hardware, Processor, Stop};
+pub use laws::{operations_are_local, operations_move_or_stop};
+pub use seq_io::{IoElement, PortState};
+pub use seq_kernel::Note;
+pub use seq_turns::{FlushAt, Hand, RecoveryAt, ReleaseAt};

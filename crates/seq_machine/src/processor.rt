@@ -1,0 +1,188 @@
+// A turn of a processor.
+ghost use Rattle.std.specs.Prelude.{◌≡◌, ◌<◌, ◌^◌, None};
+ghost use Rattle.seq_words.specs.Description.{IsDescription};
+ghost use Rattle.seq_layout.specs.Shapes.{shape_of};
+ghost use Rattle.seq_layout.specs.Copies.{Matches, copies};
+ghost use Rattle.seq_process.specs.declared.running.Running.{Running};
+ghost use Rattle.seq_turns.specs.declared.hand.Hand.TheVariants as hand;
+ghost use Rattle.seq_turns.specs.Machines.{copies_after};
+ghost use Rattle.seq_turns.specs.Processors.{runs, turn};
+ghost use Rattle.seq_turns.specs.Events.{happens, note};
+ghost use Rattle.seq_machine.specs.Here.{here, turned, change_of};
+ghost use Rattle.seq_machine.specs.Needs.{IsOperating, NeedsOf};
+ghost use Rattle.seq_machine.specs.Plain.{Outside, IsHardware, machine_of, outside_of};
+ghost use Rattle.seq_machine.specs.Processors.{RunNeeds, TurnNeeds, MayTurn, local_turn, hand_left, cache_left, note_left, processor_after, cursor_after};
+
+use crate::causes::found;
+use crate::operations::operate;
+use crate::runs::{Ran, acquire, run};
+use crate::seeks::seek;
+use crate::turned::Turned;
+use crate::{Hardware, Note, Processor};
+use seq_layout::Layout;
+use seq_memory::Memories;
+use seq_turns::Hand;
+use seq_words::{Element, Event, MachineDesc, Pe};
+use std::mem;
+
+impl Processor {
+    // Takes up what a turn left: the note, or None where the processor stops.
+    fn take(&mut self, turned: Turned) -> Option<Note>
+        ensures hand { self.new.hand ≡ hand_left turned }
+        ensures cache { self.new.cache ≡ cache_left turned self.old.cache }
+        ensures note { result ≡ note_left turned }
+    {
+        match turned {
+            Turned::Moved(hand, note) => {
+                self.hand = hand;
+                Some(note)
+            }
+            Turned::Stopped => {
+                self.hand = Hand::Down;
+                self.cache.clear();
+                None
+            }
+        }
+    }
+
+    // A turn of a processor that runs a process. The process stays where it stands, unless it leaves the processor.
+    fn run(
+        &mut self,
+        pe: Pe,
+        incarnation: u64,
+        memories: &mut Memories,
+        layout: &Layout,
+        desc: &MachineDesc,
+    ) -> Option<Note>
+        requires description { IsDescription desc.now }
+        requires layout { layout.now ≡ shape_of desc.now }
+        requires matches { Matches layout.now memories.old }
+        requires runs { (r : Running) × (self.old.hand ≡ hand.Running r) × RunNeeds desc.now (copies layout.now memories.old) r }
+        ensures processor { (r : Running) → self.old.hand ≡ hand.Running r → self.new ≡ processor_after (runs desc.now (here (copies layout.now memories.old) self.old.cache incarnation) pe.0 r) self.old }
+        ensures note { (r : Running) → self.old.hand ≡ hand.Running r → result ≡ note_left (turned (runs desc.now (here (copies layout.now memories.old) self.old.cache incarnation) pe.0 r)) }
+        ensures copies { (r : Running) → self.old.hand ≡ hand.Running r → copies layout.now memories.new ≡ copies_after (change_of (runs desc.now (here (copies layout.now memories.old) self.old.cache incarnation) pe.0 r)) (copies layout.now memories.old) }
+        ensures matches { Matches layout.now memories.new }
+    {
+        let Hand::Running(running) = &mut self.hand else {
+            unreachable!();
+        };
+        let turned = match run(running, &mut self.cache, memories, layout, desc) {
+            Ran::Goes => return Some(Note::Ran(running.pid)),
+            Ran::Leaves(cause, mask) => found(*running, cause, mask, pe, incarnation, desc),
+            Ran::Acquires(segment) => acquire(
+                *running,
+                segment,
+                pe,
+                incarnation,
+                memories,
+                layout,
+                desc,
+            ),
+            Ran::Stops => Turned::Stopped,
+        };
+        self.take(turned)
+    }
+
+    // A turn of a processor that is amid an operation.
+    fn operate(
+        &mut self,
+        pe: Pe,
+        incarnation: u64,
+        memories: &mut Memories,
+        layout: &Layout,
+        desc: &MachineDesc,
+    ) -> Option<Note>
+        requires description { IsDescription desc.now }
+        requires layout { layout.now ≡ shape_of desc.now }
+        requires matches { Matches layout.now memories.old }
+        requires operating { IsOperating self.old.hand }
+        requires needs { NeedsOf desc.now (copies layout.now memories.old) self.old.cache self.old.hand }
+        ensures processor { self.new ≡ processor_after (turn desc.now (here (copies layout.now memories.old) self.old.cache incarnation) pe.0 self.old.hand) self.old }
+        ensures note { result ≡ note_left (turned (turn desc.now (here (copies layout.now memories.old) self.old.cache incarnation) pe.0 self.old.hand)) }
+        ensures copies { copies layout.now memories.new ≡ copies_after (change_of (turn desc.now (here (copies layout.now memories.old) self.old.cache incarnation) pe.0 self.old.hand)) (copies layout.now memories.old) }
+        ensures matches { Matches layout.now memories.new }
+    {
+        let hand = mem::replace(&mut self.hand, Hand::Seek);
+        let turned = operate(
+            hand,
+            pe,
+            incarnation,
+            &mut self.cache,
+            memories,
+            layout,
+            desc,
+        );
+        self.take(turned)
+    }
+
+    /// A turn of a processor: its note, or None where it stops since the halves of its process differ. No memory is to be copied,
+    /// and no process to be recovered.
+    pub fn turn(
+        &mut self,
+        cursor: &mut u8,
+        pe: Pe,
+        incarnation: u64,
+        memories: &mut Memories,
+        layout: &Layout,
+        desc: &MachineDesc,
+    ) -> Option<Note>
+        requires description { IsDescription desc.now }
+        requires layout { layout.now ≡ shape_of desc.now }
+        requires matches { Matches layout.now memories.old }
+        requires incarnation { incarnation < 2 ^ 48 }
+        requires needs { TurnNeeds desc.now (copies layout.now memories.old) self.old.cache cursor.old self.old.hand }
+        ensures processor { self.new ≡ processor_after (local_turn desc.now (copies layout.now memories.old) self.old.cache incarnation cursor.old pe.0 self.old.hand) self.old }
+        ensures note { result ≡ note_left (turned (local_turn desc.now (copies layout.now memories.old) self.old.cache incarnation cursor.old pe.0 self.old.hand)) }
+        ensures copies { copies layout.now memories.new ≡ copies_after (change_of (local_turn desc.now (copies layout.now memories.old) self.old.cache incarnation cursor.old pe.0 self.old.hand)) (copies layout.now memories.old) }
+        ensures cursor { cursor.new ≡ cursor_after (local_turn desc.now (copies layout.now memories.old) self.old.cache incarnation cursor.old pe.0 self.old.hand) cursor.old }
+        ensures matches { Matches layout.now memories.new }
+    {
+        match &self.hand {
+            Hand::Down => Some(Note::Nothing),
+            Hand::Seek => {
+                let (hand, note) = seek(cursor, pe, incarnation, memories, layout, desc);
+                self.hand = hand;
+                Some(note)
+            }
+            Hand::Running(_) => self.run(pe, incarnation, memories, layout, desc),
+            Hand::Recovering(_) => unreachable!(),
+            Hand::Claiming(_, _)
+            | Hand::Acquiring(_, _, _)
+            | Hand::Flushing(_, _, _, _)
+            | Hand::Unlocking(_, _, _, _)
+            | Hand::Leaving(_, _) => self.operate(pe, incarnation, memories, layout, desc),
+        }
+    }
+}
+
+impl Hardware {
+    /// A turn of a processor. Where the halves of its process differ, it stops, and all that names it names one that isn't live.
+    pub(crate) fn processor_turn(&mut self, pe: Pe) -> Note
+        requires hardware { IsHardware self.old }
+        requires may { MayTurn self.old pe.0 }
+        ensures machine { (o : Outside) → machine_of self.new (outside_of (happens self.old.desc (machine_of self.old o) (Event.Processor pe))) ≡ happens self.old.desc (machine_of self.old o) (Event.Processor pe) }
+        ensures note { (o : Outside) → result ≡ note self.old.desc (machine_of self.old o) (Event.Processor pe) }
+        ensures hardware { IsHardware self.new }
+        ensures desc { self.new.desc ≡ self.old.desc }
+    {
+        let at = pe.0 as usize;
+        let incarnation = self.incarnations.get(at);
+        let processor = self.processors.at_mut(at);
+        let cursor = self.scan.at_mut(at);
+        let note = processor.turn(
+            cursor,
+            pe,
+            incarnation,
+            &mut self.memories,
+            &self.layout,
+            &self.desc,
+        );
+        match note {
+            Some(note) => note,
+            None => {
+                self.incarnations.set(at, incarnation + 1);
+                Note::Stopped(Element::Processor(pe))
+            }
+        }
+    }
+}
