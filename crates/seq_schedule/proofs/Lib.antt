@@ -8,3 +8,4 @@ pub mod Answers
 pub mod There
 pub mod Turns
 pub mod Gates
+pub mod Faultless

@@ -5,4 +5,5 @@ pub mod Said
 pub mod Rules
 pub mod Tallying
 pub mod Scripted
+pub mod Faultless
 pub mod Laws

@@ -1,3 +1,4 @@
+ghost use Rattle.seq_schedule.specs.Faultless.{FaultlessTexts};
 ghost use Rattle.seq_schedule.specs.Laws.{ItemsAreThere, TurnsAreCounted, GateKeepsTexts};
 
 /// The law of the items: all that the items of a faultless schedule name is in the description.
@@ -13,4 +14,10 @@ pub fn turns_are_counted()
 /// The law of the gate: what is faultless behind it is faultless without it, and has the same items.
 pub fn gate_keeps_texts()
     ensures { GateKeepsTexts }
+{}
+
+/// The law of faultless texts: their items violate no rule, one behind the other, the machine makes all of them, and there are no
+/// more than lines may be.
+pub fn texts_are_faultless()
+    ensures { FaultlessTexts }
 {}
