@@ -22,3 +22,4 @@ pub mod Held
 pub mod Readiness
 pub mod Making
 pub mod Settleable
+pub mod Staged

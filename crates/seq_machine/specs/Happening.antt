@@ -1,5 +1,5 @@
 -- What an event asks of the outside, by its note, and why it may end the run.
-use Rattle.std.specs.Prelude.{◌≡◌, ◌⊎◌, ℕ, List, [], ◌∷◌, Option, Some, None}
+use Rattle.std.specs.Prelude.{◌≡◌, ◌≤◌, ◌⊎◌, ℕ, List, [], ◌∷◌, Option, Some, None}
 use Rattle.seq_words.specs.declared.events.Entry.{Entry}
 use Rattle.seq_shelf.specs.Causes.{Rose}
 use Rattle.seq_shelf.specs.Told.{LineView, ChronicleView}
@@ -81,6 +81,11 @@ ChronicleStops old new (stop.Line line) = ⊥
 ChronicleStops old new stop.Chronicle = Rose old.faults new.faults
 ChronicleStops old new stop.NoMemory = Rose old.refusals new.refusals
 ChronicleStops old new (stop.Check element blocker) = ⊥
+
+-- the counts of a chronicle never fall
+pub record CountsStay (old new : ChronicleView) : Type 0 where
+  pub faults : old.faults ≤ new.faults
+  pub refusals : old.refusals ≤ new.refusals
 
 -- the line on which a byte was to be sent ends the run for this reason
 pub record StopsAtLine (note : Note) (old new : List LineView) (reason : Stop) : Type 0 where

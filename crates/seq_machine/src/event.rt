@@ -13,7 +13,7 @@ ghost use Rattle.seq_fits.specs.Unfailed.{IsUnfailed, IsBuilt};
 ghost use Rattle.seq_machine.specs.Plain.{Outside, machine_of, outside_of, IsOutside, IsHardware};
 ghost use Rattle.seq_machine.specs.Starting.{no_outside};
 ghost use Rattle.seq_machine.specs.Processors.{MayTurn};
-ghost use Rattle.seq_machine.specs.Happening.{sent_in, entries_in, entries_of, ChronicleStops, StopsAtCommit, StopsFor};
+ghost use Rattle.seq_machine.specs.Happening.{sent_in, entries_in, entries_of, ChronicleStops, CountsStay, StopsAtCommit, StopsFor};
 
 use crate::operations::commit_of;
 use crate::{Hardware, Note, Stop};
@@ -27,6 +27,7 @@ fn tell<C: Chronicle>(entry: Option<Entry>, chronicle: &mut C) -> Result<(), Sto
     ensures err { OnErr result ((C.chronicle chronicle.new).told ≡ (C.chronicle chronicle.old).told) }
     ensures asked { OnErr result (IsSome entry) }
     ensures cause { IfErr result (ChronicleStops (C.chronicle chronicle.old) (C.chronicle chronicle.new)) }
+    ensures counts { CountsStay (C.chronicle chronicle.old) (C.chronicle chronicle.new) }
 {
     let Some(entry) = entry else {
         return Ok(());
@@ -60,6 +61,7 @@ impl Hardware {
         ensures err { OnErr result (self.new ≡ self.old) }
         ensures err_entries { OnErr result ((C.chronicle chronicle.new).told ≡ (C.chronicle chronicle.old).told) }
         ensures cause { (o : Outside) → IfErr result (StopsAtCommit (note self.old.desc (machine_of self.old o) (event.Processor pe)) (C.chronicle chronicle.old) (C.chronicle chronicle.new)) }
+        ensures counts { CountsStay (C.chronicle chronicle.old) (C.chronicle chronicle.new) }
         ensures hardware { IsHardware self.new }
         ensures desc { self.new.desc ≡ self.old.desc }
     {
@@ -97,6 +99,8 @@ impl Hardware {
         ensures err_lines { OnErr result (AllAccept (views line lines.old.items) (views line lines.new.items) (λ l. [])) }
         ensures err_entries { OnErr result ((C.chronicle chronicle.new).told ≡ (C.chronicle chronicle.old).told) }
         ensures cause { (o : Outside) → IsOutside (views line lines.old.items) (marks lines.old.items) o → IfErr result (StopsFor (note self.old.desc (machine_of self.old o) event) (views line lines.old.items) (views line lines.new.items) (C.chronicle chronicle.old) (C.chronicle chronicle.new)) }
+
+        ensures counts { CountsStay (C.chronicle chronicle.old) (C.chronicle chronicle.new) }
 
         // What the next event needs is kept.
         ensures hung { marks lines.new.items ≡ marks lines.old.items }

@@ -25,3 +25,10 @@ pub use laws::{operations_are_local, operations_move_or_stop};
 pub use seq_io::{IoElement, PortState};
 pub use seq_kernel::Note;
 pub use seq_turns::{FlushAt, Hand, RecoveryAt, ReleaseAt};
+
+#[cfg(test)]
+mod programs;
+#[cfg(test)]
+mod stage;
+#[cfg(test)]
+mod tests;

@@ -1,0 +1,13 @@
+use Rattle.std.proofs.Common.{◌≡◌, ℕ, suc, ◌+◌, true, subst, arith}
+use Rattle.seq_machine.specs.Ready.{IsReady}
+use Rattle.seq_machine.proofs.Readiness.{goes_on}
+use Rattle.seq_machine.proofs.stage.Stage.make.Goals as goal
+
+pub returns-in-Ok : goal.returns-in-Ok
+returns-in-Ok g c =
+    let next : suc c.args.self.now.made ≡ c.args.self.now.made + 1 = omega arith in
+    let allowed : c.allows.result ≡ true = cc in
+    subst (λ (n : ℕ). IsReady n c.event.new.self) next (
+    goes_on c.args.self.now.made c.args.self.now.hardware c.event.new.self c.args.event _ _ c.requires (c.allows.ensures.built allowed) (c.allows.ensures.allowed allowed)
+    c.event.ensures.hardware c.event.ensures.desc c.event.ensures.fit c.event.ensures.unfailed c.in-Ok.ensures.machine
+    )

@@ -1,0 +1,6 @@
+-- The machine is ready for the next event.
+use Rattle.seq_machine.specs.Ready.{IsReady}
+use Rattle.seq_machine.proofs.tests.play.Given as goal
+
+abbrev pub invariant-loop-row : goal.invariant-loop-row
+invariant-loop-row g l = IsReady l.stage.made l.stage.hardware

@@ -1,0 +1,523 @@
+// Scenes: orders of turns with what each turn comes to, worked by hand from the rules.
+ghost use Rattle.seq_words.specs.Description.{IsDescription};
+ghost use Rattle.seq_machine.specs.Ready.{IsReady};
+
+use crate::programs::{COUNT, ECHO, HELLO, LOOP, SPREAD};
+use crate::stage::{Outcome, Row, Stage, alone, chronicle, line, sharing, with_two_lines};
+use crate::{Note, Stop};
+use seq_kernel::{Cause, Reason};
+use seq_samples::lone_process;
+use seq_shelf::{MemChronicle, Outlet};
+use seq_words::{Entry, Event, Ioe, LineNo, MachineDesc, Pe, Pid, Seg};
+use std::alloc::Global;
+use std::process::Abort;
+use std::test::Fail;
+
+const P0: Event = Event::Processor(Pe(0));
+
+const P1: Event = Event::Processor(Pe(1));
+
+const I0: Event = Event::Io(Ioe(0));
+
+const I1: Event = Event::Io(Ioe(1));
+
+const NOTHING: Outcome = Ok(Note::Nothing);
+
+const MADE: Outcome = Ok(Note::Made);
+
+const MOVED: Outcome = Ok(Note::Moved);
+
+const RAN: Outcome = Ok(Note::Ran(Pid(0)));
+
+const RAN_1: Outcome = Ok(Note::Ran(Pid(1)));
+
+const LOOKED: Outcome = Ok(Note::Looked(Pid(0)));
+
+const LOOKED_1: Outcome = Ok(Note::Looked(Pid(1)));
+
+const TAKEN: Outcome = Ok(Note::Taken(LineNo(0)));
+
+const SENT: Outcome = Ok(Note::Sent(LineNo(0), 0x41));
+
+const EXITS: Outcome = Ok(Note::Found(Pid(0), Cause::Exit));
+
+const ENDS: Outcome = Ok(Note::Found(Pid(0), Cause::Quantum));
+
+/// Process 0 waits for the byte with that index of line 0.
+const AWAITS_FIRST: Outcome = Ok(Note::Found(Pid(0), Cause::Wait(Reason::Input(LineNo(0), 0))));
+
+const AWAITS_SECOND: Outcome = Ok(Note::Found(Pid(0), Cause::Wait(Reason::Input(LineNo(0), 1))));
+
+/// A process waits for the other, which holds the segment.
+const AWAITS_1: Outcome = Ok(Note::Found(Pid(0), Cause::Wait(Reason::Lock(Seg(0), Pid(1)))));
+
+const AWAITS_0: Outcome = Ok(Note::Found(Pid(1), Cause::Wait(Reason::Lock(Seg(0), Pid(0)))));
+
+fn entry(pid: u8, count: u32) -> Entry {
+    Entry {
+        pid: Pid(pid),
+        count,
+    }
+}
+
+/// An event is made so many times.
+fn repeat(
+    rt: &impl Abort,
+    stage: &mut Stage,
+    lines: &mut Vec<Outlet>,
+    chronicle: &mut MemChronicle,
+    row: &Row,
+)
+    requires { IsReady stage.old.made stage.old.hardware }
+    ensures { IsReady stage.new.made stage.new.hardware }
+{
+    for time in 0..row.1 {
+        assert_eq!(rt; stage.make(rt, row.0, lines, chronicle), row.2);
+    }
+}
+
+/// The rows are played one after the other.
+fn play(
+    rt: &impl Abort,
+    stage: &mut Stage,
+    lines: &mut Vec<Outlet>,
+    chronicle: &mut MemChronicle,
+    rows: &[Row],
+)
+    requires { IsReady stage.old.made stage.old.hardware }
+    ensures { IsReady stage.new.made stage.new.hardware }
+{
+    for row in rows {
+        repeat(rt, stage, lines, chronicle, row);
+    }
+}
+
+/// Rows of rows are played one after the other.
+fn play_all(
+    rt: &impl Abort,
+    stage: &mut Stage,
+    lines: &mut Vec<Outlet>,
+    chronicle: &mut MemChronicle,
+    parts: &[&[Row]],
+)
+    requires { IsReady stage.old.made stage.old.hardware }
+    ensures { IsReady stage.new.made stage.new.hardware }
+{
+    for part in parts {
+        play(rt, stage, lines, chronicle, part);
+    }
+}
+
+/// An order of turns is taken. No turn ends the run.
+fn take_order(
+    rt: &impl Abort,
+    stage: &mut Stage,
+    lines: &mut Vec<Outlet>,
+    chronicle: &mut MemChronicle,
+    order: &[Event],
+)
+    requires { IsReady stage.old.made stage.old.hardware }
+    ensures { IsReady stage.new.made stage.new.hardware }
+{
+    for event in order {
+        assert!(rt; stage.make(rt, *event, lines, chronicle).is_ok());
+    }
+}
+
+/// An order of turns is taken so many times.
+fn take_orders(
+    rt: &impl Abort,
+    stage: &mut Stage,
+    lines: &mut Vec<Outlet>,
+    chronicle: &mut MemChronicle,
+    order: &[Event],
+    times: u32,
+)
+    requires { IsReady stage.old.made stage.old.hardware }
+    ensures { IsReady stage.new.made stage.new.hardware }
+{
+    for time in 0..times {
+        take_order(rt, stage, lines, chronicle, order);
+    }
+}
+
+/// Whether a line accepted these bytes and no other.
+fn accepted(outlet: &Outlet, bytes: &[u8]) -> bool {
+    for (index, byte) in bytes.iter().enumerate() {
+        if outlet.line.byte_at(index as u64) != Some(*byte) {
+            return false;
+        }
+    }
+    outlet.line.accepted() == bytes.len() as u64
+}
+
+/// Whether the first of two lines accepted these bytes, and the second none.
+fn both_accepted(lines: &[Outlet], bytes: &[u8]) -> bool {
+    lines.len() == 2 && accepted(&lines[0], bytes) && accepted(&lines[1], &[])
+}
+
+/// On a machine with at most two lines the parts are played. It may be that the first byte that is sent to line 0, and the first
+/// commit, are refused. Line 0 accepts these bytes and line 1 none, and these entries are told.
+fn scene(
+    rt: &impl Abort,
+    alloc: Global,
+    stage: &mut Stage,
+    faulty: bool,
+    parts: &[&[Row]],
+    bytes: &[u8],
+    entries: &[Entry],
+) -> Result<(), Fail>
+    requires { IsReady stage.old.made stage.old.hardware }
+{
+    let first = Outlet {
+        line: Box::new(alloc, line(alloc, faulty)?)?,
+        hung: false,
+    };
+    let second = Outlet {
+        line: Box::new(alloc, line(alloc, false)?)?,
+        hung: false,
+    };
+    let mut lines = vec![in alloc; first, second]?;
+    let mut chronicle = chronicle(alloc, faulty)?;
+    play_all(rt, stage, &mut lines, &mut chronicle, parts);
+    assert!(rt; both_accepted(&lines, bytes));
+    assert_eq!(rt; chronicle.pairs(), entries);
+    Ok(())
+}
+
+/// The same on the machine of a description at its start.
+fn first_scene(
+    rt: &impl Abort,
+    alloc: Global,
+    desc: MachineDesc,
+    faulty: bool,
+    parts: &[&[Row]],
+    bytes: &[u8],
+    entries: &[Entry],
+) -> Result<(), Fail>
+    requires { IsDescription desc }
+{
+    let mut stage = Stage::new(alloc, desc)?;
+    scene(rt, alloc, &mut stage, faulty, parts, bytes, entries)
+}
+
+/// The same on a machine of one processor, one I/O element and one process of this image, which has line 0.
+fn alone_scene(
+    rt: &impl Abort,
+    alloc: Global,
+    image: &[u8],
+    faulty: bool,
+    parts: &[&[Row]],
+    bytes: &[u8],
+    entries: &[Entry],
+) -> Result<(), Fail> {
+    let desc = alone(rt, alloc, 1000, 4096, image)?;
+    first_scene(rt, alloc, desc, faulty, parts, bytes, entries)
+}
+
+/// Process 0 is claimed and exits at its eighth step; the flush is marked, and its first pass writes the outbox block and the
+/// context.
+const HELLO_BEFORE: [Row; 5] = [
+    (P0, 2, MOVED),
+    (P0, 7, RAN),
+    (P0, 1, EXITS),
+    (P0, 2, MOVED),
+    (P0, 9, MOVED),
+];
+
+const HELLO_COMMITS: [Row; 1] = [(P0, 1, Ok(Note::Committed(Pid(0), 8)))];
+
+/// The second pass; the flush is closed and the process released. It has ended.
+const HELLO_AFTER: [Row; 3] = [(P0, 10, MOVED), (P0, 4, MOVED), (P0, 1, LOOKED)];
+
+const HELLO_SENDS: [Row; 3] = [(I0, 1, SENT), (I0, 2, MOVED), (I0, 1, NOTHING)];
+
+const CHRONICLE_REFUSES: [Row; 1] = [(P0, 1, Err(Stop::Chronicle))];
+
+const LINE_REFUSES: [Row; 1] = [(I0, 1, Err(Stop::Line(LineNo(0))))];
+
+// A process writes a byte and exits.
+#[test]
+fn hello_is_released(rt: HostRuntime) -> Result<(), Fail> {
+    let alloc = rt.alloc();
+    let parts: [&[Row]; 4] = [&HELLO_BEFORE, &HELLO_COMMITS, &HELLO_AFTER, &HELLO_SENDS];
+    alone_scene(&rt, alloc, &HELLO, false, &parts, &[0x41], &[entry(0, 8)])
+}
+
+// The first commit is refused by the chronicle, and the first byte by the line. Nothing has changed then, and both are made again.
+#[test]
+fn faults_change_nothing(rt: HostRuntime) -> Result<(), Fail> {
+    let alloc = rt.alloc();
+    let parts: [&[Row]; 6] = [
+        &HELLO_BEFORE,
+        &CHRONICLE_REFUSES,
+        &HELLO_COMMITS,
+        &HELLO_AFTER,
+        &LINE_REFUSES,
+        &HELLO_SENDS,
+    ];
+    alone_scene(&rt, alloc, &HELLO, true, &parts, &[0x41], &[entry(0, 8)])
+}
+
+const FULL: [Row; 13] = [
+    (P0, 2, MOVED),
+    (P0, 50, RAN),
+    (P0, 1, Ok(Note::Found(Pid(0), Cause::Room))),
+    // Sixteen blocks and the context are written in each pass.
+    (P0, 26, MOVED),
+    (P0, 1, Ok(Note::Committed(Pid(0), 50))),
+    (P0, 27, MOVED),
+    // The process runs on.
+    (P0, 5, RAN),
+    (P0, 1, EXITS),
+    (P0, 11, MOVED),
+    (P0, 1, Ok(Note::Committed(Pid(0), 6))),
+    (P0, 14, MOVED),
+    (P0, 1, LOOKED),
+    (I0, 1, NOTHING),
+];
+
+// Seventeen blocks are changed, and the cache has room for sixteen.
+#[test]
+fn a_full_cache_is_flushed(rt: HostRuntime) -> Result<(), Fail> {
+    let alloc = rt.alloc();
+    let entries = [entry(0, 50), entry(0, 6)];
+    alone_scene(&rt, alloc, &SPREAD, false, &[&FULL], &[], &entries)
+}
+
+const ECHOES: [Row; 39] = [
+    (P0, 2, MOVED),
+    (P0, 2, RAN),
+    (P0, 1, AWAITS_FIRST),
+    (P0, 10, MOVED),
+    (P0, 1, Ok(Note::Committed(Pid(0), 2))),
+    (P0, 13, MOVED),
+    // Nothing is committed where no step was taken.
+    (P0, 2, MOVED),
+    (P0, 1, AWAITS_FIRST),
+    (P0, 2, MOVED),
+    (I0, 1, NOTHING),
+    (Event::Input(LineNo(0), 0x41), 1, MADE),
+    (I0, 4, MOVED),
+    (I0, 1, TAKEN),
+    (I0, 1, NOTHING),
+    (P0, 2, MOVED),
+    (P0, 11, RAN),
+    (P0, 1, AWAITS_SECOND),
+    (P0, 12, MOVED),
+    (P0, 1, Ok(Note::Committed(Pid(0), 11))),
+    (P0, 15, MOVED),
+    (I0, 1, SENT),
+    (I0, 2, MOVED),
+    (I0, 1, NOTHING),
+    (Event::Input(LineNo(0), 0x42), 1, MADE),
+    (Event::Close(LineNo(0)), 1, MADE),
+    (I0, 4, MOVED),
+    (I0, 1, TAKEN),
+    // The end of input is told.
+    (I0, 2, MOVED),
+    (I0, 1, NOTHING),
+    (P0, 2, MOVED),
+    (P0, 15, RAN),
+    (P0, 1, EXITS),
+    (P0, 12, MOVED),
+    (P0, 1, Ok(Note::Committed(Pid(0), 16))),
+    (P0, 15, MOVED),
+    (P0, 1, LOOKED),
+    (I0, 1, Ok(Note::Sent(LineNo(0), 0x42))),
+    (I0, 2, MOVED),
+    (I0, 1, NOTHING),
+];
+
+// Two bytes arrive, and the end of input; each is waited for.
+#[test]
+fn echo_answers(rt: HostRuntime) -> Result<(), Fail> {
+    let alloc = rt.alloc();
+    let entries = [entry(0, 2), entry(0, 11), entry(0, 16)];
+    alone_scene(
+        &rt,
+        alloc,
+        &ECHO,
+        false,
+        &[&ECHOES],
+        &[0x41, 0x42],
+        &entries,
+    )
+}
+
+/// A process that never ends is claimed, takes five steps, and is flushed and released.
+const FIVE_STEPS: [Row; 6] = [
+    (P0, 2, MOVED),
+    (P0, 5, RAN),
+    (P0, 1, ENDS),
+    (P0, 10, MOVED),
+    (P0, 1, Ok(Note::Committed(Pid(0), 5))),
+    (P0, 13, MOVED),
+];
+
+// A process that takes as many steps as it may is flushed and released, and claimed again.
+#[test]
+fn a_quantum_ends(rt: HostRuntime) -> Result<(), Fail> {
+    let alloc = rt.alloc();
+    let desc = alone(&rt, alloc, 5, 32, &LOOP)?;
+    let entries = [entry(0, 5), entry(0, 5)];
+    let parts: [&[Row]; 2] = [&FIVE_STEPS, &FIVE_STEPS];
+    first_scene(&rt, alloc, desc, false, &parts, &[], &entries)
+}
+
+const TRAPS: [Row; 8] = [
+    (P0, 2, MOVED),
+    (I0, 2, NOTHING),
+    (P0, 1, Ok(Note::Found(Pid(0), Cause::Trap))),
+    (P0, 10, MOVED),
+    (P0, 1, Ok(Note::Committed(Pid(0), 1))),
+    (P0, 13, MOVED),
+    (P0, 2, LOOKED),
+    (I0, 1, NOTHING),
+];
+
+// A word that is no instruction traps. There is no line to serve.
+#[test]
+fn a_trap_without_lines(rt: HostRuntime) -> Result<(), Fail> {
+    let alloc = rt.alloc();
+    let desc = lone_process(alloc)?;
+    first_scene(&rt, alloc, desc, false, &[&TRAPS], &[], &[entry(0, 1)])
+}
+
+const SERVED: [Row; 21] = [
+    (P0, 2, MOVED),
+    (P0, 7, RAN),
+    (P0, 1, EXITS),
+    (P0, 11, MOVED),
+    (P0, 1, Ok(Note::Committed(Pid(0), 8))),
+    (P0, 14, MOVED),
+    (I0, 1, SENT),
+    (I1, 1, MOVED),
+    // Both are at line 1.
+    (I0, 1, NOTHING),
+    (Event::Input(LineNo(1), 7), 1, MADE),
+    (I1, 1, MOVED),
+    // Both are at line 0.
+    (I0, 1, MOVED),
+    (I1, 1, NOTHING),
+    // Both are at line 1.
+    (I0, 1, MOVED),
+    (I1, 1, MOVED),
+    (I0, 1, NOTHING),
+    (I0, 1, MOVED),
+    (I1, 1, NOTHING),
+    (I1, 1, Ok(Note::Taken(LineNo(1)))),
+    (I0, 2, NOTHING),
+    (I1, 2, NOTHING),
+];
+
+// Two elements serve two lines, each with a cursor of its own.
+#[test]
+fn elements_serve_in_turn(rt: HostRuntime) -> Result<(), Fail> {
+    let alloc = rt.alloc();
+    let desc = with_two_lines(&rt, alloc, 64, &HELLO)?;
+    first_scene(&rt, alloc, desc, false, &[&SERVED], &[0x41], &[entry(0, 8)])
+}
+
+/// The steps that a process has committed.
+fn steps_of(entries: &[Entry], pid: Pid) -> u32 {
+    let mut steps = 0u32;
+    for entry in entries {
+        if entry.pid == pid {
+            steps = steps.saturating_add(entry.count);
+        }
+    }
+    steps
+}
+
+/// Whether process 1 took 1108 steps, and process 0 1115 and eight for each look at the number, at least one.
+fn are_counted(entries: &[Entry]) -> bool {
+    let steps = steps_of(entries, Pid(0));
+    steps_of(entries, Pid(1)) == 1108 && steps > 1115 && (steps - 1115) % 8 == 0
+}
+
+/// Two processes count to two hundred under this order of turns, after these rows.
+fn count(
+    rt: &impl Abort,
+    alloc: Global,
+    stage: &mut Stage,
+    rows: &[Row],
+    order: &[Event],
+) -> Result<(), Fail>
+    requires { IsReady stage.old.made stage.old.hardware }
+{
+    let only = Outlet {
+        line: Box::new(alloc, line(alloc, false)?)?,
+        hung: false,
+    };
+    let mut lines = vec![in alloc; only]?;
+    let mut chronicle = chronicle(alloc, false)?;
+    play(rt, stage, &mut lines, &mut chronicle, rows);
+    take_orders(rt, stage, &mut lines, &mut chronicle, order, 20_000);
+    assert_eq!(rt; lines.len(), 1);
+    assert!(rt; accepted(&lines[0], &[0xc8]));
+    assert!(rt; are_counted(chronicle.pairs()));
+    Ok(())
+}
+
+/// The same on a machine of its own.
+fn counting(rt: &impl Abort, alloc: Global, rows: &[Row], order: &[Event]) -> Result<(), Fail> {
+    let mut stage = Stage::new(alloc, sharing(rt, alloc, 512, &COUNT)?)?;
+    count(rt, alloc, &mut stage, rows, order)
+}
+
+#[test]
+fn both_count_under_the_lock(rt: HostRuntime) -> Result<(), Fail> {
+    let alloc = rt.alloc();
+    counting(&rt, alloc, &[], &[P0, P1, I0, I1])?;
+    counting(&rt, alloc, &[], &[P1, P0, P0, P0, I1])?;
+    counting(&rt, alloc, &[], &[P1, P1, P1, P1, P1, P1, P1, I0, P0])
+}
+
+const HELD: [Row; 32] = [
+    (P0, 2, MOVED),
+    // Process 0 is taken, process 1 is free.
+    (P1, 1, LOOKED),
+    (P1, 2, MOVED),
+    (P0, 4, RAN),
+    (P1, 4, RAN_1),
+    // Process 0 acquires the segment.
+    (P0, 1, MOVED),
+    (P1, 1, AWAITS_0),
+    (P0, 1, RAN),
+    (P1, 10, MOVED),
+    (P1, 1, Ok(Note::Committed(Pid(1), 4))),
+    (P1, 13, MOVED),
+    (P1, 1, LOOKED),
+    (P1, 2, MOVED),
+    // The lock is still held, and no step was taken.
+    (P1, 1, AWAITS_0),
+    (P1, 2, MOVED),
+    (P1, 1, LOOKED),
+    (P0, 5, RAN),
+    (P0, 1, Ok(Note::Found(Pid(0), Cause::Release(Seg(0))))),
+    // The segment's block and the context are written in each pass.
+    (P0, 11, MOVED),
+    (P0, 1, Ok(Note::Committed(Pid(0), 11))),
+    (P0, 12, MOVED),
+    (P1, 2, MOVED),
+    (P1, 1, AWAITS_0),
+    // The lock is released, and process 0 goes on to acquire the segment again.
+    (P0, 2, MOVED),
+    (P0, 4, RAN),
+    (P1, 2, MOVED),
+    (P1, 1, LOOKED),
+    (P1, 2, MOVED),
+    (P1, 1, MOVED),
+    // The lock is process 1's.
+    (P0, 1, AWAITS_1),
+    (P1, 1, RAN_1),
+    (P0, 1, MOVED),
+];
+
+// The lock of the segment is held by process 0, and then by process 1.
+#[test]
+fn a_held_lock_is_waited_for(rt: HostRuntime) -> Result<(), Fail> {
+    let alloc = rt.alloc();
+    counting(&rt, alloc, &HELD, &[P1, P0, I0])
+}
