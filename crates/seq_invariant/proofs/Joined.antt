@@ -78,3 +78,8 @@ module _ (d : MachineDesc) (events : List Event) (at : Committed) (m : Machine) 
       lines = subst (λ f. LinesStand d inputs f n) same lines;
     };
   }
+
+  -- what is committed then has the owners that the event made
+  pub owners_hold : (t : ℕ) → owners_of all_holds.at.state t ≡ owners_made d (owners_of at.state) m e t
+  unfolding all_holds
+  owners_hold = made.owners

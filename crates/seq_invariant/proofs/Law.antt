@@ -47,7 +47,7 @@ use Rattle.seq_invariant.proofs.Recovers.{begun_made, claimed_made, copying_made
 use Rattle.seq_invariant.proofs.Clearing.{locks_made, closing_made}
 use Rattle.seq_invariant.proofs.Strikes.{struck_blocks, mended_blocks}
 use Rattle.seq_invariant.proofs.Memories.{lost_blocks, back_blocks}
-use Rattle.seq_invariant.proofs.Joined.{EventMade, all_holds}
+use Rattle.seq_invariant.proofs.Joined.{EventMade, all_holds, owners_hold}
 
 -- A turn of a processor.
 module _ (d : MachineDesc) (events : List Event) (at : Committed) (m : Machine) (p : ℕ) (described : IsDescription d) (st : Holds d events at m) where
@@ -141,6 +141,13 @@ module _ (d : MachineDesc) (events : List Event) (at : Committed) (m : Machine) 
 pub events_keep_all : EventsKeepAll
 events_keep_all d events m e described ok check all =
     all_holds d events all.at m e described ok check all.holds (event_made d events all.at m described all.holds e ok check (events_keep d m e described ok check all.holds.words))
+
+-- and the owners are those that it made
+pub owners_kept : (d : MachineDesc) (events : List Event) (m : Machine) (e : Event) (described : IsDescription d) (ok : Allowed d m e) (check : is_check d m e ≡ false) (all : AllHolds d events m) →
+    (t : ℕ) → owners_of (events_keep_all d events m e described ok check all).at.state t ≡ owners_made d (owners_of all.at.state) m e t
+unfolding events_keep_all
+owners_kept d events m e described ok check all =
+    owners_hold d events all.at m e described ok check all.holds (event_made d events all.at m described all.holds e ok check (events_keep d m e described ok check all.holds.words))
 
 pub runs_keep_all : RunsKeepAll
 runs_keep_all d events [] m described ok all = subst (λ es. AllHolds d es m) (sym (append-nil events)) all

@@ -1,3 +1,10 @@
 pub mod Holds
 pub mod Gives
 pub mod Orders
+pub mod Within
+pub mod Parts
+pub mod Processes
+pub mod AreasHold
+pub mod LeftAreas
+pub mod Moments
+pub mod FlushAreas

@@ -2,6 +2,7 @@
 ghost use Rattle.seq_invariant.specs.Gives.{CommittedIsFlatRun, SentIsRight, SentIsRightOn, RunsSendRight, SettledIsDone};
 ghost use Rattle.seq_invariant.specs.Holds.{StartHolds, EventsKeepAll, RunsKeepAll, RunsHold};
 ghost use Rattle.seq_invariant.specs.Orders.{StepsInAnyOrder};
+ghost use Rattle.seq_invariant.specs.Within.{EventsKeepOrder, StartHoldsWithin, EventsKeepWithin, RunsKeepWithin, RunsHoldWithin, RunsFit};
 
 /// At the start all stands: words, locks, bounds, blocks and lines.
 pub fn all_holds_at_start()
@@ -41,4 +42,21 @@ pub fn settled_is_done()
 /// The uncommitted steps of any processes, taken in any order, lead on from the history, and to one state.
 pub fn steps_in_any_order()
     ensures { StepsInAnyOrder }
+{}
+
+/// Every event that may be made and doesn't end the run leaves the lock words that a recovery is still to clear after those that it
+/// has cleared, where all stands.
+pub fn recoveries_clear_in_order()
+    ensures { EventsKeepOrder }
+{}
+
+/// All that an element holds stays within its bounds, together with all that stands: at the start, and after every event that may
+/// be made and doesn't end the run, failures, repairs, strikes, recoveries and the copying of a memory included. So it does after
+/// every list of such events, from the start too.
+pub fn runs_stay_within_bounds()
+    ensures start { StartHoldsWithin }
+    ensures events { EventsKeepWithin }
+    ensures on { RunsKeepWithin }
+    ensures runs { RunsHoldWithin }
+    ensures fit { RunsFit }
 {}

@@ -1,0 +1,37 @@
+-- Every event that ends no run keeps all that stands, with the bounds and the order of clearing, and so does every list of events.
+use Rattle.std.proofs.Common.{◌≡◌, [], ◌∷◌, ◌++◌, sym, subst}
+use Rattle.std.proofs.lemmas.List.{append-nil, append_assoc}
+use Rattle.seq_turns.specs.declared.hand.Hand.TheVariants as hand
+use Rattle.seq_turns.specs.declared.recovery.RecoveryAt.TheVariants as recovery
+use Rattle.seq_turns.specs.Events.{happens, run}
+use Rattle.seq_fits.proofs.Fitting.{events_keep_fit}
+use Rattle.seq_fits.proofs.Image.{machines_start_fit}
+use Rattle.seq_invariant.specs.Within.{HoldsWithin, StartHoldsWithin, EventsKeepWithin, RunsKeepWithin, RunsHoldWithin, RunsFit}
+use Rattle.seq_invariant.proofs.Law.{events_keep_all}
+use Rattle.seq_invariant.proofs.Start.{all_holds_at_start}
+use Rattle.seq_invariant.proofs.Clears.{events_keep_order}
+
+pub start_holds_within : StartHoldsWithin
+start_holds_within d described = record {
+  all = all_holds_at_start d described;
+  fit = machines_start_fit d described;
+  clears = record { order = λ p k r inside e found. absurd (let same : hand.Seek ≡ hand.Recovering (recovery.Locks r) = e in let c : ⊥ = cc in c) };
+}
+
+pub events_keep_within : EventsKeepWithin
+events_keep_within d events m e described ok check st = record {
+  all = events_keep_all d events m e described ok check st.all;
+  fit = events_keep_fit d m e described ok check st.clears st.fit;
+  clears = events_keep_order d events m e described ok check st.all st.clears;
+}
+
+pub runs_keep_within : RunsKeepWithin
+runs_keep_within d events [] m described ok st = subst (λ es. HoldsWithin d es m) (sym (append-nil events)) st
+runs_keep_within d events (e ∷ es) m described ok st =
+    subst (λ xs. HoldsWithin d xs (run d (e ∷ es) m)) (append_assoc events (e ∷ []) es) (runs_keep_within d (events ++ e ∷ []) es (happens d m e) described ok.2 (events_keep_within d events m e described ok.0 ok.1 st))
+
+pub runs_hold_within : RunsHoldWithin
+runs_hold_within d es described ok = runs_keep_within d [] es _ described ok (start_holds_within d described)
+
+pub runs_fit : RunsFit
+runs_fit d es described ok = (runs_hold_within d es described ok).fit
