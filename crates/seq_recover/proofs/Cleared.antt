@@ -1,0 +1,133 @@
+-- What stays and what comes where a word is cleared.
+use Rattle.std.proofs.Common.{◌≡◌, ◌≢◌, ◌⊎◌, inl, inr, ℕ, suc, ◌+◌, ◌*◌, ◌/◌, ◌%◌, ◌<◌, Bool, true, false, ◌&&◌, ◌==◌, nat_lt, length, Some, None, refl, sym, ap, ◌∙◌, subst, arith, eq-eqb}
+use Rattle.std.proofs.lemmas.Bool.{cases_Bool, cases_order, cond_both, cond-true, and_parts, and_from, eqb-true, ne_eqb, lt-ltb, not_from_false, false≢true, true≢false}
+use Rattle.seq_words.specs.Masks.{has_bit}
+use Rattle.seq_words.specs.declared.description.MachineDesc.{MachineDesc}
+use Rattle.seq_layout.specs.Shapes.{shape_of, segment_extent}
+use Rattle.seq_layout.specs.Copies.{Copies, serves, same_copy}
+use Rattle.seq_io.specs.Changes.Change.{Unchanged, To_word}
+use Rattle.seq_turns.specs.declared.recovery.Closing.{Closing}
+use Rattle.seq_turns.specs.declared.recovery.Recovery.{Recovery}
+use Rattle.seq_turns.specs.Functions.{update_copy}
+use Rattle.seq_turns.specs.Machines.{Change, copies_after}
+use Rattle.seq_turns.specs.Reading.{context_of, write_word}
+use Rattle.seq_turns.specs.Recoveries.{names, is_shadow, is_left, first_left, left_above}
+use Rattle.seq_turns.proofs.Functions.{copy_same, copy_other, lowest_none, lowest_least}
+use Rattle.seq_recover.specs.Stands.{AllServe, IsInArea, IsAreaEqual, NamesHeld, ClosingKnows, RecoveredKnows}
+use Rattle.seq_recover.proofs.Rows.{clears}
+
+-- a copy of a word is cleared
+module _ (d : MachineDesc) (p : Copies) (e n : ℕ) (c : Bool) where
+  abbrev pub now : Copies
+  now = copies_after (To_word e n c 0) p
+
+  -- a word that names a process did so before
+  named_before : (q t : ℕ) (c' : Bool) → names d now q t c' ≡ true → names d p q t c' ≡ true
+  unfolding update_copy
+  named_before q t c' = cond_both ((segment_extent (shape_of d) t == e && 0 == n) && same_copy c' c) 0 (p.word (segment_extent (shape_of d) t) 0 c')
+      (λ w. (serves (shape_of d) p (segment_extent (shape_of d) t) c' && (w == suc q)) ≡ true → names d p q t c' ≡ true)
+      (λ _ is. absurd (let parts = and_parts (serves (shape_of d) p (segment_extent (shape_of d) t) c') (0 == suc q) is in let zero : 0 ≡ suc q = eqb-true 0 (suc q) parts.1 in let none : ⊥ = omega (arith, zero) in none))
+      (λ _ is. is)
+
+  context_stays : (q : ℕ) → context_of d now q ≡ context_of d p q
+  unfolding context_of
+  context_stays q = refl
+
+  in_area_before : (q e' : ℕ) → IsInArea d now q e' → IsInArea d p q e'
+  in_area_before q e' (inl own) = inl own
+  in_area_before q e' (inr (t, below, extent, is)) = inr (t, below, extent, named_before q t false is)
+
+  pub area_stays : (q : ℕ) → IsAreaEqual d p q → IsAreaEqual d now q
+  area_stays q area = record { each = λ e' n' inside lt. area.each e' n' (in_area_before q e' inside) lt }
+
+  pub held_stays : (q : ℕ) → NamesHeld d p q → NamesHeld d now q
+  held_stays q held = record { each = λ t c' below is. ap (λ x. has_bit x.held t) (context_stays q) ∙ held.each t c' below (named_before q t c' is) }
+
+-- the number of a copy of a segment's lock word
+abbrev number : ℕ → Bool → ℕ
+number t true = 2 * t
+number t false = 2 * t + 1
+
+number_segment : (t : ℕ) (c : Bool) → number t c / 2 ≡ t
+number_segment t true = omega arith
+number_segment t false = omega arith
+
+number_copy : (t : ℕ) (c : Bool) → is_shadow (number t c) ≡ c
+number_copy t true = eq-eqb (2 * t % 2) 0 (omega arith)
+number_copy t false = ne_eqb ((2 * t + 1) % 2) 0 (omega arith)
+
+number_few : (s t : ℕ) (c : Bool) → t < s → number t c < 2 * s
+number_few s t true lt = omega (arith, lt)
+number_few s t false lt = omega (arith, lt)
+
+-- a lock word that names the process is to be cleared, or its segment is held
+module _ (d : MachineDesc) (p : Copies) (q : ℕ) where
+  left_or_held : (t : ℕ) (c : Bool) → names d p q t c ≡ true → is_left d p q (number t c) ≡ false → has_bit (context_of d p q).held t ≡ true
+  left_or_held t c is out = elim (cases_Bool (has_bit (context_of d p q).held t)) [
+    | inl held ↦ held
+    | inr free ↦ absurd (false≢true (sym out ∙ left free))
+  ]
+    where
+      left : has_bit (context_of d p q).held t ≡ false → is_left d p q (number t c) ≡ true
+      left free = and_from _ _
+          (not_from_false _ (ap (has_bit (context_of d p q).held) (number_segment t c) ∙ free))
+          (ap (λ x. names d p q x (is_shadow (number t c))) (number_segment t c) ∙ ap (names d p q t) (number_copy t c) ∙ is)
+
+  -- where none is left, all that name it are held
+  pub none_left : first_left d p q ≡ None → NamesHeld d p q
+  none_left none = record { each = λ t c below is. left_or_held t c is (lowest_none (is_left d p q) (2 * length d.segments) none (number t c) (number_few (length d.segments) t c below)) }
+
+  -- and so after the last that is left is cleared
+  module _ (k : ℕ) (found : first_left d p q ≡ Some k) (last : left_above d p q k ≡ None) where
+    abbrev after : Copies
+    after = copies_after (clears d k) p
+
+    out_above : (j : ℕ) → j < 2 * length d.segments → k < j → is_left d p q j ≡ false
+    out_above j few lt = elim (cases_Bool (is_left d p q j)) [
+      | inl is ↦ absurd (false≢true (sym (lowest_none (λ i. nat_lt k i && is_left d p q i) (2 * length d.segments) last j few) ∙ and_from _ _ (lt-ltb k j lt) is))
+      | inr out ↦ out
+    ]
+
+    cleared : (t : ℕ) (c : Bool) → number t c ≡ k → names d after q t c ≡ true → ⊥
+    cleared t c e is =
+        let extent : segment_extent (shape_of d) (k / 2) ≡ segment_extent (shape_of d) t = ap (segment_extent (shape_of d)) (ap (λ i. i / 2) (sym e) ∙ number_segment t c) in
+        let copy : is_shadow k ≡ c = ap is_shadow (sym e) ∙ number_copy t c in
+        let here : after.word (segment_extent (shape_of d) (k / 2)) 0 (is_shadow k) ≡ 0 = copy_same p.word (segment_extent (shape_of d) (k / 2)) 0 (is_shadow k) 0 in
+        let zero : after.word (segment_extent (shape_of d) t) 0 c ≡ 0 = sym (λ i. after.word (extent i) 0 (copy i)) ∙ here in
+        let parts = and_parts (serves (shape_of d) after (segment_extent (shape_of d) t) c) (after.word (segment_extent (shape_of d) t) 0 c == suc q) is in
+        let named : after.word (segment_extent (shape_of d) t) 0 c ≡ suc q = eqb-true (after.word (segment_extent (shape_of d) t) 0 c) (suc q) parts.1 in
+        omega (arith, zero, named)
+
+    pub last_left : NamesHeld d after q
+    last_left = record { each = λ t c below is. ap (λ x. has_bit x.held t) (context_stays d p (segment_extent (shape_of d) (k / 2)) 0 (is_shadow k) q) ∙ left_or_held t c (before t c is) (out t c below is (cases_order (number t c) k)) }
+      where
+        before : (t : ℕ) (c : Bool) → names d after q t c ≡ true → names d p q t c ≡ true
+        before t c is = named_before d p (segment_extent (shape_of d) (k / 2)) 0 (is_shadow k) q t c is
+
+        out : (t : ℕ) (c : Bool) → t < length d.segments → names d after q t c ≡ true → (number t c ≡ k) ⊎ ((number t c < k) ⊎ (k < number t c)) → is_left d p q (number t c) ≡ false
+        out t c below is (inl e) = absurd (cleared t c e is)
+        out t c below is (inr (inl lt)) = lowest_least (is_left d p q) (2 * length d.segments) k found (number t c) lt
+        out t c below is (inr (inr lt)) = out_above (number t c) (number_few (length d.segments) t c below) lt
+
+-- the turns of Closing
+module _ (d : MachineDesc) (p : Copies) (r : Recovery Closing) (serve : AllServe (shape_of d) p) (knows : ClosingKnows d p r) where
+  abbrev own : ℕ
+  own = r.pid.0
+
+  freed : (c : Bool) → write_word d p own 0 c 0 ≡ To_word own 0 c 0
+  freed c = cond-true (serves (shape_of d) p own c) (To_word own 0 c 0) Unchanged (serve own c)
+
+  pub closing_knows : ClosingKnows d (copies_after (write_word d p own 0 true 0) p) (record r { cursor = 1 })
+  closing_knows = subst (λ (x : Change). ClosingKnows d (copies_after x p) (record r { cursor = 1 })) (sym (freed true)) (record {
+    area = area_stays d p own 0 true own knows.area;
+    locks = held_stays d p own 0 true own knows.locks;
+    begun = λ _. copy_same p.word own 0 true 0;
+  })
+
+  pub recovered_knows : r.cursor ≢ 0 → RecoveredKnows d (copies_after (write_word d p own 0 false 0) p) own
+  recovered_knows begun = subst (λ (x : Change). RecoveredKnows d (copies_after x p) own) (sym (freed false)) (record {
+    area = area_stays d p own 0 false own knows.area;
+    locks = held_stays d p own 0 false own knows.locks;
+    primary = copy_same p.word own 0 false 0;
+    shadow = copy_other p.word own 0 false 0 own 0 true true≢false ∙ knows.begun begun;
+  })

@@ -1,0 +1,35 @@
+use Rattle.std.proofs.Common.{◌≡◌, subst, sym}
+use Rattle.seq_layout.specs.Shapes.{Shape}
+use Rattle.seq_layout.specs.Copies.{Copies, copies}
+use Rattle.seq_turns.specs.declared.recovery.Closing.{Closing}
+use Rattle.seq_turns.specs.declared.recovery.Recovery.{Recovery}
+use Rattle.seq_recover.specs.Stands.{AllServe, ClosingKnows, RecoveredKnows}
+use Rattle.seq_recover.proofs.Rows.{closed_first, closed_second}
+use Rattle.seq_recover.proofs.Cleared.{closing_knows, recovered_knows}
+use Rattle.seq_recover.proofs.closing.close_turn.Goals as goal
+
+pub returns-then-recovery-eq0-clause-row : goal.returns-then-recovery-eq0-clause-row
+returns-then-recovery-eq0-clause-row c =
+    let p = copies c.args.layout.now c.args.memories.now in
+    closed_first c.args.desc.now p (copies c.args.layout.now c.write_status.new.memories) c.args.recovery c.if-recovery-eq0.true c.write_status.ensures.copies
+
+pub returns-else-recovery-eq0-clause-row : goal.returns-else-recovery-eq0-clause-row
+returns-else-recovery-eq0-clause-row c =
+    let p = copies c.args.layout.now c.args.memories.now in
+    closed_second c.args.desc.now p (copies c.args.layout.now c.write_status-else-recovery-eq0.new.memories) c.args.recovery c.if-recovery-eq0.false c.write_status-else-recovery-eq0.ensures.copies
+
+pub returns-then-recovery-eq0-clause-closing : goal.returns-then-recovery-eq0-clause-closing
+returns-then-recovery-eq0-clause-closing c r is serve knows =
+    let d = c.args.desc.now in
+    let p = copies c.args.layout.now c.args.memories.now in
+    let serve' = subst (λ (s : Shape). AllServe s p) c.requires.layout serve in
+    let same : ◌≡◌ {A = Recovery Closing} (record c.args.recovery { cursor = 1 }) r = cc in
+    subst (λ (x : Recovery Closing). ClosingKnows d (copies c.args.layout.now c.write_status.new.memories) x) same
+    (subst (λ (x : Copies). ClosingKnows d x (record c.args.recovery { cursor = 1 })) (sym c.write_status.ensures.copies) (closing_knows d p c.args.recovery serve' knows))
+
+pub returns-else-recovery-eq0-clause-recovered : goal.returns-else-recovery-eq0-clause-recovered
+returns-else-recovery-eq0-clause-recovered c r is serve knows =
+    let d = c.args.desc.now in
+    let p = copies c.args.layout.now c.args.memories.now in
+    let serve' = subst (λ (s : Shape). AllServe s p) c.requires.layout serve in
+    subst (λ (x : Copies). RecoveredKnows d x c.args.recovery.pid.0) (sym c.write_status-else-recovery-eq0.ensures.copies) (recovered_knows d p c.args.recovery serve' knows c.if-recovery-eq0.false)

@@ -1,0 +1,136 @@
+// The turns of Locks: the lock words that name the process are cleared, but for those of segments that it holds.
+ghost use Rattle.std.specs.Prelude.{◌≡◌, ◌*◌, ◌/◌, ◌<◌, ◌≤◌, true, length};
+ghost use Rattle.seq_words.specs.Description.{IsDescription};
+ghost use Rattle.seq_layout.specs.Shapes.{shape_of, segment_extent};
+ghost use Rattle.seq_layout.specs.Copies.{Matches, copies, serves};
+ghost use Rattle.seq_io.specs.Changes.Change.{To_word};
+ghost use Rattle.seq_status.specs.declared.step.Step.TheVariants.{Again, Next};
+ghost use Rattle.seq_turns.specs.Machines.{copies_after};
+ghost use Rattle.seq_turns.specs.Reading.{context_of};
+ghost use Rattle.seq_turns.specs.Recoveries.{is_shadow, is_left, locks_move};
+ghost use Rattle.seq_recover.specs.Needs.{HasContext, LocksNeeds};
+ghost use Rattle.seq_recover.specs.Rows.{IsRow, after_locks, left_from};
+ghost use Rattle.seq_recover.specs.Stands.{LocksKnows, ClosingKnows};
+
+use crate::words::{lock_word, names};
+use seq_layout::Layout;
+use seq_memory::Memories;
+use seq_status::Step;
+use seq_turns::{Closing, Locks, Recovery};
+use seq_words::{MachineDesc, Pid, Seg, block_word, has_bit};
+
+/// The block of a context whose fifth number has a bit for each segment that the process holds.
+const HELD_BLOCK: u32 = 4;
+
+/// The place of that number in its block.
+const HELD_PLACE: usize = 16;
+
+// The segments that a process holds, as its context at its first copy says. It reads one block.
+fn held(pid: Pid, memories: &Memories, layout: &Layout, desc: &MachineDesc) -> u16
+    requires layout { layout.now ≡ shape_of desc.now }
+    requires matches { Matches layout.now memories.now }
+    requires process { pid.0 < length desc.now.processes }
+    requires context { HasContext desc.now (copies layout.now memories.now) pid.0 }
+    ensures { result ≡ (context_of desc.now (copies layout.now memories.now) pid.0).held }
+{
+    let block = layout.first_block(memories, layout.process(pid), HELD_BLOCK);
+    block_word(block, HELD_PLACE) as u16
+}
+
+// Whether a lock word is to be cleared, for a process that holds these segments. Lock words are counted two for each segment:
+// first its shadow, then its primary.
+fn is_left(
+    k: u8,
+    held: u16,
+    pid: Pid,
+    memories: &Memories,
+    layout: &Layout,
+    desc: &MachineDesc,
+) -> bool
+    requires description { IsDescription desc.now }
+    requires layout { layout.now ≡ shape_of desc.now }
+    requires matches { Matches layout.now memories.now }
+    requires word { k < 2 * length desc.now.segments }
+    requires held { held ≡ (context_of desc.now (copies layout.now memories.now) pid.0).held }
+    ensures { result ≡ is_left desc.now (copies layout.now memories.now) pid.0 k }
+{
+    let segment = Seg(k / 2);
+    !has_bit(held, segment.0) && names(pid, segment, k % 2 == 0, memories, layout, desc)
+}
+
+// The lowest lock word from this one on that is to be cleared.
+fn left_from(
+    from: u8,
+    held: u16,
+    pid: Pid,
+    memories: &Memories,
+    layout: &Layout,
+    desc: &MachineDesc,
+) -> Option<u8>
+    requires description { IsDescription desc.now }
+    requires layout { layout.now ≡ shape_of desc.now }
+    requires matches { Matches layout.now memories.now }
+    requires from { from ≤ 2 * length desc.now.segments }
+    requires held { held ≡ (context_of desc.now (copies layout.now memories.now) pid.0).held }
+    ensures { result ≡ left_from desc.now (copies layout.now memories.now) pid.0 from }
+{
+    for k in from..2 * layout.segments() {
+        if is_left(k, held, pid, memories, layout, desc) {
+            return Some(k);
+        }
+    }
+    None
+}
+
+// Clears a lock word, which is in service.
+fn clear(k: u8, memories: &mut Memories, layout: &Layout, desc: &MachineDesc)
+    requires layout { layout.now ≡ shape_of desc.now }
+    requires matches { Matches layout.now memories.old }
+    requires word { k < 2 * length desc.now.segments }
+    requires serves { serves (shape_of desc.now) (copies layout.now memories.old) (segment_extent (shape_of desc.now) (k / 2)) (is_shadow k) ≡ true }
+    ensures copies { copies layout.now memories.new ≡ copies_after (To_word (segment_extent (shape_of desc.now) (k / 2)) 0 (is_shadow k) 0) (copies layout.now memories.old) }
+    ensures matches { Matches layout.now memories.new }
+{
+    let at = lock_word(Seg(k / 2), layout, desc);
+    layout.write_word(memories, at, k % 2 == 0, 0);
+}
+
+/// Clears the next lock word that names the process and whose segment its context doesn't hold, of each segment first the shadow.
+/// The turn that clears the last one moves on, and so does a turn that finds none and changes nothing.
+pub fn lock_turn(
+    recovery: Recovery<Locks>,
+    memories: &mut Memories,
+    layout: &Layout,
+    desc: &MachineDesc,
+) -> Step<Recovery<Locks>, Recovery<Closing>>
+    requires description { IsDescription desc.now }
+    requires layout { layout.now ≡ shape_of desc.now }
+    requires matches { Matches layout.now memories.old }
+    requires needs { LocksNeeds desc.now (copies layout.now memories.old) recovery }
+    ensures row { IsRow (copies layout.now memories.old) (copies layout.now memories.new) (after_locks result) (λ m p. locks_move desc.now m p recovery) }
+    ensures matches { Matches layout.now memories.new }
+    ensures locks { (r : _) → result ≡ Again r → LocksKnows desc.now (copies layout.now memories.old) recovery → LocksKnows desc.now (copies layout.now memories.new) r }
+    ensures closing { (r : _) → result ≡ Next r → LocksKnows desc.now (copies layout.now memories.old) recovery → ClosingKnows desc.now (copies layout.now memories.new) r }
+{
+    let closing = Recovery {
+        pid: recovery.pid,
+        holder: recovery.holder,
+        forward: recovery.forward,
+        cursor: 0,
+        stage: Closing,
+    };
+    let held = held(recovery.pid, memories, layout, desc);
+    let Some(k) = left_from(0, held, recovery.pid, memories, layout, desc) else {
+        return Step::Next(closing);
+    };
+    let more = left_from(k + 1, held, recovery.pid, memories, layout, desc).is_some();
+    clear(k, memories, layout, desc);
+    if more {
+        Step::Again(Recovery {
+            cursor: recovery.cursor + 1,
+            ..recovery
+        })
+    } else {
+        Step::Next(closing)
+    }
+}
