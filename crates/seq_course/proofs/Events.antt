@@ -1,0 +1,187 @@
+-- One event, as the hardware makes it: what it comes to in a course.
+use Rattle.std.proofs.Common.{◌≡◌, inl, inr, Option, ℕ, suc, ◌+◌, ◌≤◌, ◌<◌, Bool, List, [], ◌∷◌, ◌++◌, length, refl, sym, ◌∙◌, ap, subst, arith, append-nil}
+use Rattle.std.proofs.lemmas.List.{length-map}
+use Rattle.seq_words.specs.declared.description.MachineDesc.{MachineDesc}
+use Rattle.seq_words.specs.declared.events.Entry.{Entry}
+use Rattle.seq_words.specs.declared.events.Event.{Event}
+use Rattle.seq_shelf.specs.Causes.{Rose}
+use Rattle.seq_shelf.specs.Told.{Grows, LineView, ChronicleView}
+use Rattle.seq_shelf.specs.Rows.{AllAccept}
+use Rattle.seq_shelf.specs.Outlets.{view, views}
+use Rattle.seq_shelf.specs.declared.line.Outlet.{Outlet}
+use Rattle.seq_shelf.proofs.Rows.{grows_more, all_more}
+use Rattle.seq_kernel.specs.declared.outcomes.Note.{Note}
+use Rattle.seq_turns.specs.Machines.{Machine}
+use Rattle.seq_turns.specs.Allowed.{Allowed}
+use Rattle.seq_turns.specs.Events.{happens, note}
+use Rattle.seq_fits.specs.Fit.{Fit}
+use Rattle.seq_fits.specs.Numbers.{NumbersFit}
+use Rattle.seq_fits.specs.Unfailed.{IsUnfailed, IsBuilt}
+use Rattle.seq_machine.specs.declared.hardware.Hardware.{Hardware}
+use Rattle.seq_machine.specs.declared.hardware.Stop.{Stop}
+use Rattle.seq_machine.specs.declared.hardware.Stop.TheVariants as stop
+use Rattle.seq_machine.specs.Plain.{Outside, machine_of, outside_of, IsOutside, IsHardware}
+use Rattle.seq_machine.specs.Starting.{no_outside, machine_at_start}
+use Rattle.seq_machine.specs.Making.{IsReadyFor}
+use Rattle.seq_machine.specs.Processors.{MayTurn}
+use Rattle.seq_machine.specs.Serving.{StopsAt}
+use Rattle.seq_machine.specs.Happening.{sent_in, entries_in, StopsFor, CountsStay, ChronicleStops}
+use Rattle.seq_machine.proofs.Readiness.{numbers_fit, goes_on}
+use Rattle.seq_machine.proofs.Turnable.{may_turn}
+use Rattle.seq_machine.proofs.Unchanged.{allowed_anywhere}
+use Rattle.seq_course.specs.Course.{machine_after}
+use Rattle.seq_course.specs.Making.{Scene, scene, LedTo, MayCome, Makes, HaltsAt, Breaks}
+use Rattle.seq_course.proofs.Runs.{run-append}
+use Rattle.seq_course.proofs.Told.{IsTold, is_told}
+
+-- ---- what an event needs
+-- there are as many outlets as lines are shown
+pub enough : {I : Type 0} {D : I → Type 0} (line : (x : I) × D x → LineView) (outlets : List (Outlet I D)) (n : ℕ) → n ≤ length (views line outlets) → n ≤ length outlets
+enough line outlets n le = subst (λ k. n ≤ k) (length-map outlets (view line)) le
+
+module _ (e : Event) (a : Scene) (may : MayCome (e ∷ []) a) where
+  pub built_next : IsBuilt e
+  built_next = may.allowed.0
+
+  pub allowed_next : Allowed a.hardware.desc (machine_of a.hardware no_outside) e
+  allowed_next =
+      let led = may.led.machine in
+      let here : Allowed may.desc (machine_of a.hardware _) e = subst (λ (m : Machine). Allowed may.desc m e) (sym led.machine) may.allowed.1 in
+      subst (λ (d : MachineDesc). Allowed d (machine_of a.hardware no_outside) e) (sym led.described) (allowed_anywhere may.desc a.hardware _ no_outside e built_next here)
+
+  pub numbers_next : NumbersFit a.hardware.desc (machine_of a.hardware no_outside)
+  numbers_next = (let room = may.ready.room in numbers_fit may.ready.number a.hardware (omega arith) may.ready.ready)
+
+  turns_next : (p : ℕ) → p < a.hardware.desc.processors → MayTurn a.hardware p
+  turns_next p there = may_turn a.hardware p may.ready.ready.hardware may.ready.ready.fit numbers_next may.ready.ready.unfailed there
+
+  pub told_next : (o : Outside) → IsTold a.hardware.desc (machine_of a.hardware o) e
+  told_next o = is_told a.hardware turns_next o e built_next allowed_next
+
+-- and as many lines as outlets
+pub enough_shown : {I : Type 0} {D : I → Type 0} (line : (x : I) × D x → LineView) (outlets : List (Outlet I D)) (n : ℕ) → n ≤ length outlets → n ≤ length (views line outlets)
+enough_shown line outlets n le = subst (λ k. n ≤ k) (sym (length-map outlets (view line))) le
+
+-- ---- an event that is made
+counts_since : (begun before after : ChronicleView) → CountsStay begun before → CountsStay before after → CountsStay begun after
+counts_since begun before after one two = record {
+  faults = (let le = one.faults in let more = two.faults in omega (arith, le, more));
+  refusals = (let le = one.refusals in let more = two.refusals in omega (arith, le, more));
+}
+
+module _ (e : Event) (old new : Hardware) (before after : ChronicleView) (lines new_lines : List LineView) (marks new_marks : List Bool) (n : Note) (may : MayCome (e ∷ []) (scene old before lines marks)) where
+  module _ (desc : new.desc ≡ old.desc)
+      (machine : (o : Outside) → IsOutside lines marks o → machine_of new (outside_of (happens old.desc (machine_of old o) e)) ≡ happens old.desc (machine_of old o) e)
+      (noted : (o : Outside) → IsOutside lines marks o → n ≡ note old.desc (machine_of old o) e)
+      (sent : AllAccept lines new_lines (sent_in n))
+      (entries : Grows before.told after.told (entries_in n))
+      (counts : CountsStay before after)
+      (outside : (o : Outside) → IsOutside lines marks o → IsOutside new_lines new_marks (outside_of (happens old.desc (machine_of old o) e))) where
+    module _ (begun : Scene) (es : List Event) (led : LedTo old.desc begun es (scene old before lines marks)) where
+      abbrev m : Machine
+      m = machine_after old.desc es
+
+      abbrev o : Outside
+      o = outside_of m
+
+      abbrev made : Machine
+      made = happens old.desc (machine_of old o) e
+
+      abbrev next : Machine
+      next = machine_after old.desc (es ++ e ∷ [])
+
+      is_next : made ≡ next
+      is_next = ap (λ (x : Machine). happens old.desc x e) led.machine.machine ∙ sym (run-append old.desc es (e ∷ []) (machine_at_start old.desc))
+
+      is_note : note old.desc (machine_of old o) e ≡ n
+      is_note = sym (noted o led.machine.shown)
+
+      told : IsTold old.desc (machine_of old o) e
+      told = told_next e (scene old before lines marks) may o
+
+      history_is : m.history ++ entries_in n ≡ next.history
+      history_is = ap (λ (x : Note). m.history ++ entries_in x) (sym is_note) ∙ sym told.history ∙ ap (λ (x : Machine). x.history) is_next
+
+      sent_is : (l : ℕ) → next.sent l ≡ m.sent l ++ sent_in n l
+      sent_is l = ap (λ (x : Machine). x.sent l) (sym is_next) ∙ told.sent l ∙ ap (λ (x : Note). m.sent l ++ sent_in x l) is_note
+
+      led_next : LedTo old.desc begun (es ++ e ∷ []) (scene new after new_lines new_marks)
+      led_next = record {
+        machine = record {
+          described = desc;
+          machine = subst (λ (x : Machine). machine_of new (outside_of x) ≡ x) is_next (machine o led.machine.shown);
+          shown = subst (λ (x : Machine). IsOutside new_lines new_marks (outside_of x)) is_next (outside o led.machine.shown);
+        };
+        released = record {
+          history = subst (λ (xs : List Entry). Grows begun.chronicle.told after.told xs) history_is (grows_more begun.chronicle.told before.told after.told m.history (entries_in n) led.released.history entries);
+          bytes = all_more begun.lines lines new_lines m.sent (sent_in n) next.sent led.released.bytes sent sent_is;
+        };
+        counts = counts_since begun.chronicle before after led.counts counts;
+      }
+
+    module _ (hung : new_marks ≡ marks) (hardware : IsHardware new) (fit : Fit new.desc (machine_of new no_outside)) (unfailed : IsUnfailed new.desc (machine_of new no_outside)) where
+      ready : (k : ℕ) → IsReadyFor (1 + k) old → IsReadyFor k new
+      ready k is = record {
+        number = suc is.number;
+        ready = goes_on is.number old new e lines marks is.ready (built_next e (scene old before lines marks) may) (allowed_next e (scene old before lines marks) may) hardware desc fit unfailed machine;
+        room = (let room = is.room in omega (arith, room));
+      }
+
+      pub event_made : Makes (e ∷ []) (scene old before lines marks) (scene new after new_lines new_marks)
+      event_made = record {
+        led = λ d begun es led.
+            let P : MachineDesc → Type 0 = λ x. LedTo x begun es (scene old before lines marks) → LedTo x begun (es ++ e ∷ []) (scene new after new_lines new_marks) in
+            subst P led.machine.described (led_next begun es) led;
+        keeps = record { ready = ready; desc = desc; hung = hung; number = sent.number };
+      }
+
+-- ---- an event that ends the run
+rose_since : (first before after : ℕ) → first ≤ before → Rose before after → Rose first after
+rose_since first before after le rose = omega (arith, le, rose)
+
+line_since : (first old new : List LineView) (bytes : ℕ → List ℕ) (at : ℕ) (s : Stop) → AllAccept first old bytes → StopsAt at old new s → StopsAt at first new s
+line_since first old new bytes at (stop.Line l) all stops = (stops.0, rose_since _ _ _ (all.each at).faults stops.1)
+line_since first old new bytes at stop.NoMemory all stops = rose_since _ _ _ (all.each at).refusals stops
+line_since first old new bytes at (stop.Check element blocker) all stops = absurd stops
+line_since first old new bytes at stop.Chronicle all stops = absurd stops
+
+chronicle_since : (begun before after : ChronicleView) (s : Stop) → CountsStay begun before → ChronicleStops before after s → ChronicleStops begun after s
+chronicle_since begun before after stop.Chronicle counts stops = rose_since _ _ _ counts.faults stops
+chronicle_since begun before after stop.NoMemory counts stops = rose_since _ _ _ counts.refusals stops
+chronicle_since begun before after (stop.Check element blocker) counts stops = absurd stops
+chronicle_since begun before after (stop.Line l) counts stops = absurd stops
+
+stops_since : (n : Note) (first old new : List LineView) (bytes : ℕ → List ℕ) (begun before after : ChronicleView) (s : Stop) → AllAccept first old bytes → CountsStay begun before → StopsFor n old new before after s → StopsFor n first new begun after s
+stops_since n first old new bytes begun before after s all counts (inl x) = inl (record { line = x.line; sent = x.sent; stops = line_since first old new bytes x.line s all x.stops })
+stops_since n first old new bytes begun before after s all counts (inr x) = inr (record { committed = x.committed; stops = chronicle_since begun before after s counts x.stops })
+
+module _ (e : Event) (old new : Hardware) (before after : ChronicleView) (lines new_lines : List LineView) (marks new_marks : List Bool) (s : Stop)
+    (none : AllAccept lines new_lines (λ l. [])) (told : after.told ≡ before.told)
+    (cause : (o : Outside) → IsOutside lines marks o → StopsFor (note old.desc (machine_of old o) e) lines new_lines before after s) where
+  module _ (begun : Scene) (es : List Event) (led : LedTo old.desc begun es (scene old before lines marks)) where
+    abbrev at_stop : Machine
+    at_stop = machine_after old.desc es
+
+    halts_here : HaltsAt old.desc begun es e (scene new after new_lines new_marks) s
+    halts_here = record {
+      stops = stops_since (note old.desc at_stop e) begun.lines lines new_lines at_stop.sent begun.chronicle before after s led.released.bytes led.counts
+          (subst (λ (x : Machine). StopsFor (note old.desc x e) lines new_lines before after s) led.machine.machine (cause (outside_of at_stop) led.machine.shown));
+      released = record {
+        history = subst (λ (x : Option (List Entry)). Grows begun.chronicle.told x at_stop.history) (sym told) led.released.history;
+        bytes = all_more begun.lines lines new_lines at_stop.sent (λ l. []) at_stop.sent led.released.bytes none (λ l. sym (append-nil (at_stop.sent l)));
+      };
+    }
+
+  pub event_breaks : new_marks ≡ marks → Breaks (e ∷ []) (scene old before lines marks) (scene new after new_lines new_marks) s
+  event_breaks hung = record {
+    halts = λ d begun es led.
+        let P : MachineDesc → Type 0 = λ x. LedTo x begun es (scene old before lines marks) → HaltsAt x begun es e (scene new after new_lines new_marks) s in
+        record {
+          part = [];
+          event = e;
+          rest = [];
+          parts = refl;
+          halts = subst (λ (xs : List Event). HaltsAt d begun xs e (scene new after new_lines new_marks) s) (sym (append-nil es)) (subst P led.machine.described (halts_here begun es) led);
+        };
+    hung = hung;
+  }

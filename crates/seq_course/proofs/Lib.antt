@@ -1,0 +1,17 @@
+pub mod Runs
+pub mod Lines
+pub mod Ports
+pub mod Scripts
+pub mod Passing
+pub mod Rooms
+pub mod Allowed
+pub mod Right
+pub mod Scenes
+pub mod Told
+pub mod Events
+pub mod Lists
+pub mod Rounds
+pub mod Scripting
+pub mod Finishes
+pub mod Items
+pub mod Begun

@@ -1,0 +1,5 @@
+pub mod Course
+pub mod Made
+pub mod Making
+pub mod Room
+pub mod Done

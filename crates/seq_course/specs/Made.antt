@@ -1,0 +1,46 @@
+-- What a course has made of the hardware, the lines and the chronicle, and how it ended.
+use Rattle.std.specs.Prelude.{◌≡◌, ℕ, Bool, Option, List, []}
+use Rattle.seq_words.specs.declared.description.MachineDesc.{MachineDesc}
+use Rattle.seq_words.specs.declared.events.Entry.{Entry}
+use Rattle.seq_words.specs.declared.events.Event.{Event}
+use Rattle.seq_shelf.specs.Told.{Grows, LineView, ChronicleView}
+use Rattle.seq_shelf.specs.Rows.{AllAccept}
+use Rattle.seq_schedule.specs.declared.script.Item.{Item}
+use Rattle.seq_turns.specs.Events.{note}
+use Rattle.seq_machine.specs.declared.hardware.Hardware.{Hardware}
+use Rattle.seq_machine.specs.declared.hardware.Stop.{Stop}
+use Rattle.seq_machine.specs.Plain.{machine_of, outside_of, IsOutside}
+use Rattle.seq_machine.specs.Happening.{StopsFor}
+use Rattle.seq_course.specs.Course.{machine_after, Passes, EndsAt, ComesTo}
+use Rattle.seq_course.specs.declared.ending.Ending.{Ending}
+use Rattle.seq_course.specs.declared.ending.Ending.TheVariants.{Done, OutOfTurns, Stopped}
+
+-- These events were made: the history that the chronicle got and the bytes that the lines accepted are those of the machine.
+pub record Released (d : MachineDesc) (es : List Event) (before after : Option (List Entry)) (old new : List LineView) : Type 0 where
+  pub history : Grows before after (machine_after d es).history
+  pub bytes : AllAccept old new (machine_after d es).sent
+
+-- and the hardware, with what the lines show, is the machine after them
+pub record IsMachineAfter (d : MachineDesc) (es : List Event) (h : Hardware) (lines : List LineView) (marks : List Bool) : Type 0 where
+  pub described : h.desc ≡ d
+  pub machine : machine_of h (outside_of (machine_after d es)) ≡ machine_after d es
+  pub shown : IsOutside lines marks (outside_of (machine_after d es))
+
+-- The event that is next after these ends the run, on this line of the schedule: a count rose.
+pub record StopsBefore (d : MachineDesc) (items : List Item) (es : List Event) (line : ℕ) (stop : Stop) (before after : ChronicleView) (old new : List LineView) : Type 0 where
+  pub event : Event
+  pub comes : ComesTo d items line es event
+  pub stops : StopsFor (note d (machine_after d es) event) old new before after stop
+
+-- How a course of these items ended, with these events made: with all of them, with a `finish` that ran out of turns, or before
+-- an event that a fault or want of memory stopped.
+abbrev pub EndsWith : MachineDesc → List Item → List Event → ChronicleView → ChronicleView → List LineView → List LineView → Ending → Type 0
+EndsWith d items es before after old new Done = Passes d [] items es
+EndsWith d items es before after old new (OutOfTurns line) = EndsAt d items line es
+EndsWith d items es before after old new (Stopped line stop) = StopsBefore d items es line stop before after old new
+
+-- A course of these items: the events that were made, by how it ended, and what they released.
+pub record Takes (d : MachineDesc) (items : List Item) (ending : Ending) (before after : ChronicleView) (old new : List LineView) : Type 0 where
+  pub events : List Event
+  pub ends : EndsWith d items events before after old new ending
+  pub released : Released d events before.told after.told old new

@@ -1,0 +1,11 @@
+//! The course of a schedule: its events, made of the machine one after the other, up to the first that ends the run.
+#![tactic(auto)]
+
+mod course;
+mod ending;
+mod laws;
+mod making;
+
+pub use course::run;
+pub use ending::Ending;
+pub use laws::{courses_are_right, finishes_are_done};
