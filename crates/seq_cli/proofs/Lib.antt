@@ -1,10 +1,5 @@
 pub mod Openings
-pub mod Scheduled
 pub mod Completing
-pub mod Sends
-pub mod Going
-pub mod Runs
-pub mod Sound
-pub mod Tops
 pub mod Deterministic
-pub mod Hello
+pub mod Scheduled
+pub mod Courses

@@ -13,23 +13,22 @@ use Rattle.seq_manifest.specs.Drafts.{Describes}
 use Rattle.seq_manifest.specs.Faults.{first_fault as description_fault}
 use Rattle.seq_cli.specs.Files.{Opening, absent, refused, faulty, fails, file_fault, file_limit, OpensText, OpensContent, OpensLoad, OpensFile}
 use Rattle.seq_cli.specs.Parts.{part_fault, Completes, names_of, OpensParts}
-use Rattle.seq_cli.specs.Opening.{form_of, is_built, OpensItems, OpensSchedule, OpensBuilt, OpensMachine, OpensForm, Opens}
-use Rattle.seq_cli.specs.Schedule.{schedule_fault, Schedules}
-use Rattle.seq_cli.specs.Endings.{Ending, early, wanting, stopped, whole, ending_of, EndsAsked, EndsEarly, Stops}
-use Rattle.seq_cli.specs.Loads.{Loads, LoadStops, TextStops, NoValue, NoNext, no_fault, failed_of, status_of, PartsLoaded, PartsStop}
+use Rattle.seq_schedule.specs.declared.forms.Gate.TheVariants.{Built}
+use Rattle.seq_schedule.specs.Rules.{first_fault as schedule_fault}
+use Rattle.seq_cli.specs.Opening.{form_of, Schedules, OpensItems, OpensSchedule, OpensMachine, OpensForm, Opens}
+use Rattle.seq_cli.specs.Endings.{Moment, early, wanting, ran, moment_of, EndsAsked, EndsEarly, Stops}
+use Rattle.seq_cli.specs.Loads.{Loads, LoadStops, TextStops, NoValue, NoNext, no_fault, failed_of, error_status, PartsLoaded, PartsStop}
 
 -- an ending that is asked for, where more is asked for, and at any time
-pub ends_more : (Asked More : Opening → Type 0) → ((o : Opening) → Asked o → More o) → (e : Ending) → EndsEarly Asked e → EndsEarly More e
+pub ends_more : (Asked More : Opening → Type 0) → ((o : Opening) → Asked o → More o) → (e : Moment) → EndsEarly Asked e → EndsEarly More e
 ends_more Asked More f (early o) h = f o h
 ends_more Asked More f wanting h = tt
-ends_more Asked More f stopped h = absurd h
-ends_more Asked More f whole h = absurd h
+ends_more Asked More f ran h = absurd h
 
-pub ends_at_all : (Asked : Opening → Type 0) (e : Ending) → EndsEarly Asked e → EndsAsked Asked e
+pub ends_at_all : (Asked : Opening → Type 0) (e : Moment) → EndsEarly Asked e → EndsAsked Asked e
 ends_at_all Asked (early o) h = h
 ends_at_all Asked wanting h = tt
-ends_at_all Asked stopped h = absurd h
-ends_at_all Asked whole h = absurd h
+ends_at_all Asked ran h = absurd h
 
 -- a text above the limit violates rule 1, and no other
 fault_above : (fault : List ℕ → Option (ℕ × ℕ)) (text : List ℕ) → file_limit < length text → file_fault fault text ≡ Some (file_limit, 1)
@@ -54,7 +53,7 @@ pub fault_stops : (files : List (List ℕ)) (fault : List ℕ → Option (ℕ ×
 fault_stops files fault content = subst (λ b. OpensLoad b files fault NoValue NoNext content faulty) (sym (eq-eqb (length files) (length files) refl)) refl
 
 -- a text that a reader gives no value ends the loading
-pub unread_stops : (fault : List ℕ → Option (ℕ × ℕ)) (files : List (List ℕ)) (content : Option (List ℕ)) (text : List ℕ) (error : ReadError) → content ≡ Some text → length text ≤ file_limit → ((place rule : ℕ) → error ≡ read.Refused place rule → fault text ≡ Some (place, rule)) → LoadStops (status_of (length files) error) files fault content
+pub unread_stops : (fault : List ℕ → Option (ℕ × ℕ)) (files : List (List ℕ)) (content : Option (List ℕ)) (text : List ℕ) (error : ReadError) → content ≡ Some text → length text ≤ file_limit → ((place rule : ℕ) → error ≡ read.Refused place rule → fault text ≡ Some (place, rule)) → LoadStops (error_status (length files) error) files fault content
 unread_stops fault files content text (read.Refused place rule) is short violates = refused_stops files place rule fault content text is (fault_within fault text short ∙ violates place rule refl)
 unread_stops fault files content text read.NoMemory is short violates = tt
 
@@ -71,7 +70,7 @@ read_load false files fault (Some text) o h = cut_text _ files (fault text) text
 pub text_stops : (status : Status) (files : List (List ℕ)) (fault : List ℕ → Option (ℕ × ℕ)) (content : Option (List ℕ)) → TextStops status files content → LoadStops status files fault content
 text_stops status files fault content h =
     ends_more (OpensFile (failed_of status (length files)) files no_fault NoValue NoNext content) (OpensFile (failed_of status (length files)) files fault NoValue NoNext content)
-    (λ o. read_load (fails (failed_of status (length files)) (length files)) files fault content o) (ending_of status) h
+    (λ o. read_load (fails (failed_of status (length files)) (length files)) files fault content o) (moment_of status) h
 
 -- what ends the loading, whatever would come next
 any_text : {A : Type 0} (files : List (List ℕ)) (f : Option (ℕ × ℕ)) (text : List ℕ) (Spelled : A → Type 0) (next : List (List ℕ) → A → Opening → Type 0) (o : Opening) → OpensText files f text (NoValue text) NoNext o → OpensText files f text Spelled next o
@@ -86,7 +85,7 @@ any_load false files fault Spelled next (Some text) o h = any_text files (file_f
 pub stops_file : {A : Type 0} (status : Status) (files : List (List ℕ)) (fault : List ℕ → Option (ℕ × ℕ)) (Spelled : List ℕ → A → Type 0) (next : List (List ℕ) → A → Opening → Type 0) (content : Option (List ℕ)) → LoadStops status files fault content → Stops (OpensFile (failed_of status (length files)) files fault Spelled next content) status
 stops_file status files fault Spelled next content h =
     ends_more (OpensFile (failed_of status (length files)) files fault NoValue NoNext content) (OpensFile (failed_of status (length files)) files fault Spelled next content)
-    (λ o. any_load (fails (failed_of status (length files)) (length files)) files fault Spelled next content o) (ending_of status) h
+    (λ o. any_load (fails (failed_of status (length files)) (length files)) files fault Spelled next content o) (moment_of status) h
 
 -- the load of an earlier file didn't fail
 pub earlier : (status : Status) (file k : ℕ) → k < file → fails (failed_of status file) k ≡ false
@@ -103,7 +102,7 @@ opens_file failed fault Spelled next content before after value o free h then =
 
 pub stops_next : {A : Type 0} (status : Status) (failed : Option ℕ) (fault : List ℕ → Option (ℕ × ℕ)) (Spelled : List ℕ → A → Type 0) (next : List (List ℕ) → A → Opening → Type 0) (content : Option (List ℕ)) (before after : List (List ℕ)) (value : A) → fails failed (length before) ≡ false → Loads fault Spelled content before after value → Stops (next after value) status → Stops (OpensFile failed before fault Spelled next content) status
 stops_next status failed fault Spelled next content before after value free h then =
-    ends_more (next after value) (OpensFile failed before fault Spelled next content) (λ o. opens_file failed fault Spelled next content before after value o free h) (ending_of status) then
+    ends_more (next after value) (OpensFile failed before fault Spelled next content) (λ o. opens_file failed fault Spelled next content before after value o free h) (moment_of status) then
 
 pub longer : {A : Type 0} (fault : List ℕ → Option (ℕ × ℕ)) (Spelled : List ℕ → A → Type 0) (content : Option (List ℕ)) (before after : List (List ℕ)) (value : A) → Loads fault Spelled content before after value → length after ≡ length before + 1
 longer fault Spelled content before after value h = ap length h.kept ∙ length_push before h.text
@@ -197,10 +196,6 @@ stops_record map status names before d next h =
         stops_parts map status 0 h.front h.rest before first bytes d h.files h.desc next h.loaded
         (subst (λ m. LoadStops status h.files (part_fault h.desc m) (map (first ∷ bytes))) (sym at) k)
 
--- a description that is built leads on to its parts
-pub stops_built : (status : Status) (map : Map) (failed : Option ℕ) (schedule : List ℕ) (files : List (List ℕ)) (draft : Draft) → is_built draft.desc ≡ true → Stops (OpensBuilt true map failed schedule files draft) status → Stops (OpensMachine map failed schedule files draft) status
-stops_built status map failed schedule files draft built stops = subst (λ b. Stops (OpensBuilt b map failed schedule files draft) status) (sym built) stops
-
 -- what is asked for where a load fails, other than that, is asked for where none fails
 free_text : {A : Type 0} (files : List (List ℕ)) (f : Option (ℕ × ℕ)) (text : List ℕ) (Spelled : A → Type 0) (next then : List (List ℕ) → A → Opening → Type 0) (o : Opening) → ((fs : List (List ℕ)) (v : A) → next fs v o → then fs v o) → OpensText files f text Spelled next o → OpensText files f text Spelled then o
 free_text files (Some f) text Spelled next then o go h = h
@@ -218,17 +213,16 @@ free_parts map failed n ((b ∷ bytes) ∷ names) files d next then o sound go h
     free_load (fails failed (length files)) files (part_fault d n) (Completes d n) (λ fs e o. OpensParts map failed (n + 1) names fs e next o) (λ fs e o. OpensParts map None (n + 1) names fs e then o) (map (b ∷ bytes)) o sound
     (λ fs e k. free_parts map failed (n + 1) names fs e next then o sound go k) h
 
-free_built : (b : Bool) (map : Map) (failed : Option ℕ) (schedule : List ℕ) (files : List (List ℕ)) (draft : Draft) (o : Opening) → (o ≡ faulty → ⊥) → OpensBuilt b map failed schedule files draft o → OpensBuilt b map None schedule files draft o
-free_built true map failed schedule files draft o sound h =
+free_machine : (map : Map) (failed : Option ℕ) (schedule : List ℕ) (files : List (List ℕ)) (draft : Draft) (o : Opening) → (o ≡ faulty → ⊥) → OpensMachine map failed schedule files draft o → OpensMachine map None schedule files draft o
+free_machine map failed schedule files draft o sound h =
     free_parts map failed 0 (names_of draft) files draft.desc (OpensSchedule map failed schedule) (OpensSchedule map None schedule) o sound
-    (λ fs d k. free_load (fails failed (length fs)) fs (schedule_fault d) Schedules (OpensItems d) (OpensItems d) (map schedule) o sound (λ more items then. then) k) h
-free_built false map failed schedule files draft o sound h = h
+    (λ fs d k. free_load (fails failed (length fs)) fs (schedule_fault Built d) Schedules (OpensItems d) (OpensItems d) (map schedule) o sound (λ more items then. then) k) h
 
 free_form : (map : Map) (failed : Option ℕ) (form : Option (List ℕ × List ℕ)) (o : Opening) → (o ≡ faulty → ⊥) → OpensForm map failed form o → OpensForm map None form o
 free_form map failed None o sound h = h
 free_form map failed (Some form) o sound h =
     free_load (fails failed 0) [] description_fault Describes (OpensMachine map failed form.1) (OpensMachine map None form.1) (map form.0) o sound
-    (λ files draft k. free_built (is_built draft.desc) map failed form.1 files draft o sound k) h
+    (λ files draft k. free_machine map failed form.1 files draft o sound k) h
 
 pub free_opening : (words : List (List ℕ)) (map : Map) (failed : Option ℕ) (o : Opening) → (o ≡ faulty → ⊥) → Opens words map failed o → Opens words map None o
 free_opening words map failed o sound h = free_form map failed (form_of words) o sound h

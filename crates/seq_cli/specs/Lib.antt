@@ -1,10 +1,7 @@
 pub mod Files
 pub mod Parts
-pub mod Schedule
 pub mod Opening
 pub mod Endings
 pub mod Loads
-pub mod Plain
-pub mod Ran
 pub mod Top
 pub mod Numbers

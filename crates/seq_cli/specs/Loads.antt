@@ -46,9 +46,9 @@ abbrev pub TextStops : Status → List (List ℕ) → Option (List ℕ) → Type
 TextStops status files content = LoadStops status files no_fault content
 
 -- the status of a text that a reader gives no value
-abbrev pub status_of : ℕ → ReadError → Status
-status_of file (read.Refused place rule) = Refused file place rule
-status_of file read.NoMemory = NoMemory
+abbrev pub error_status : ℕ → ReadError → Status
+error_status file (read.Refused place rule) = Refused file place rule
+error_status file read.NoMemory = NoMemory
 
 -- The parts from part n on are loaded: from a description and the files before to those after them.
 abbrev pub PartsLoaded : Map → ℕ → List (List ℕ) → List (List ℕ) → MachineDesc → List (List ℕ) → MachineDesc → Type 0

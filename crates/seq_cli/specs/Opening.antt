@@ -1,16 +1,16 @@
 -- What the words and the files ask for: an answer before any run, or a run.
-use Rattle.std.specs.Prelude.{◌≡◌, ℕ, Bool, true, false, not, ◌&&◌, ◌==◌, if◌then◌else◌, nat_le, count_ones, Option, Some, None, List, [], ◌∷◌, length, codes}
+use Rattle.std.specs.Prelude.{◌≡◌, ℕ, Bool, false, not, ◌&&◌, ◌==◌, if◌then◌else◌, Option, Some, None, List, [], ◌∷◌, codes}
 use Rattle.std.specs.Str.{bytes_eq}
-use Rattle.seq_words.specs.Description.{process_of}
 use Rattle.seq_words.specs.declared.description.MachineDesc.{MachineDesc}
 use Rattle.seq_shelf.specs.Told.{Map}
 use Rattle.seq_manifest.specs.declared.draft.Draft.{Draft}
 use Rattle.seq_manifest.specs.Drafts.{Describes}
 use Rattle.seq_manifest.specs.Faults.{first_fault as description_fault}
+use Rattle.seq_schedule.specs.declared.forms.Gate.TheVariants.{Built}
 use Rattle.seq_schedule.specs.declared.script.Item.{Item}
-use Rattle.seq_cli.specs.Files.{Opening, usage, refused, ready, OpensFile}
+use Rattle.seq_schedule.specs.Rules.{first_fault as schedule_fault, items_of}
+use Rattle.seq_cli.specs.Files.{Opening, usage, ready, OpensFile}
 use Rattle.seq_cli.specs.Parts.{names_of, OpensParts}
-use Rattle.seq_cli.specs.Schedule.{schedule_fault, Schedules}
 
 -- a word that isn't empty and doesn't begin with `-`
 abbrev pub is_name : List ℕ → Bool
@@ -23,26 +23,19 @@ form_of (command ∷ machine ∷ schedule ∷ []) =
     if bytes_eq command (codes "run") && is_name machine && is_name schedule then Some (machine, schedule) else None
 form_of words = None
 
+-- the items of a schedule
+abbrev pub Schedules : List ℕ → List Item → Type 0
+Schedules text items = items ≡ items_of Built text
+
 -- the files in their order: the machine, its parts, the schedule
 abbrev pub OpensItems : MachineDesc → List (List ℕ) → List Item → Opening → Type 0
 OpensItems d files items o = o ≡ ready d items files
 
 abbrev pub OpensSchedule : Map → Option ℕ → List ℕ → List (List ℕ) → MachineDesc → Opening → Type 0
-OpensSchedule map failed schedule files d o = OpensFile failed files (schedule_fault d) Schedules (OpensItems d) (map schedule) o
-
--- what the plain machine runs: one processor, one I/O element, no segment, and one process, which owns at most one line
-abbrev pub is_built : MachineDesc → Bool
-is_built d =
-    (d.processors == 1) && (d.ios == 1) && (length d.segments == 0) && (length d.processes == 1)
-    && nat_le (count_ones (process_of d 0).lines) 1
-
--- every other description is refused at its beginning
-abbrev pub OpensBuilt : Bool → Map → Option ℕ → List ℕ → List (List ℕ) → Draft → Opening → Type 0
-OpensBuilt true map failed schedule files draft o = OpensParts map failed 0 (names_of draft) files draft.desc (OpensSchedule map failed schedule) o
-OpensBuilt false map failed schedule files draft o = o ≡ refused 0 0 0
+OpensSchedule map failed schedule files d o = OpensFile failed files (schedule_fault Built d) Schedules (OpensItems d) (map schedule) o
 
 abbrev pub OpensMachine : Map → Option ℕ → List ℕ → List (List ℕ) → Draft → Opening → Type 0
-OpensMachine map failed schedule files draft o = OpensBuilt (is_built draft.desc) map failed schedule files draft o
+OpensMachine map failed schedule files draft o = OpensParts map failed 0 (names_of draft) files draft.desc (OpensSchedule map failed schedule) o
 
 abbrev pub OpensForm : Map → Option ℕ → Option (List ℕ × List ℕ) → Opening → Type 0
 OpensForm map failed None o = o ≡ usage

@@ -1,59 +1,82 @@
 -- What a call of the program does, under every status.
-use Rattle.std.specs.Prelude.{◌≡◌, ◌⊎◌, ℕ, Option, Some, None, List, []}
+use Rattle.std.specs.Prelude.{◌≡◌, ◌⊎◌, ℕ, Option, Some, None, List, [], ◌∷◌, ◌++◌}
 use Rattle.seq_words.specs.Description.{IsDescription}
 use Rattle.seq_words.specs.declared.description.MachineDesc.{MachineDesc}
 use Rattle.seq_words.specs.declared.events.Entry.{Entry}
-use Rattle.seq_schedule.specs.declared.script.Item.{Item}
-use Rattle.seq_shelf.specs.Told.{Grows, LineView, Map}
+use Rattle.seq_words.specs.declared.events.Event.{Event}
 use Rattle.seq_flat.specs.Run.{IsRight}
-use Rattle.seq_cli.specs.declared.status.Status.{Status}
+use Rattle.seq_shelf.specs.Told.{Grows, LineView, ChronicleView, Map}
 use Rattle.seq_shelf.specs.Rows.{AllAccept}
+use Rattle.seq_schedule.specs.declared.script.Script.TheVariants as scripts
+use Rattle.seq_schedule.specs.declared.script.Item.{Item}
+use Rattle.seq_lines.specs.Arrivals.{arrived}
+use Rattle.seq_course.specs.declared.ending.Ending.{Ending}
+use Rattle.seq_course.specs.Made.{EndsWith, Released, Takes}
+use Rattle.seq_course.specs.Done.{DoneAfter, FinishesAreDone}
+use Rattle.seq_cli.specs.declared.status.Status.{Status}
+use Rattle.seq_cli.specs.declared.status.Status.TheVariants.{Done}
 use Rattle.seq_cli.specs.Files.{ready}
 use Rattle.seq_cli.specs.Opening.{Opens}
-use Rattle.seq_cli.specs.Schedule.{plain_events}
-use Rattle.seq_cli.specs.Endings.{Answers, IsEarly}
-use Rattle.seq_cli.specs.Ran.{Ran}
+use Rattle.seq_cli.specs.Endings.{status_of, Answers, IsEarly}
 
--- no history, and nothing released
-pub record IsNothing (history : List Entry) (released : ℕ → List ℕ) : Type 0 where
-  pub history_is : history ≡ []
-  pub released_is : (l : ℕ) → released l ≡ []
-
--- The machine that the words and the shelf's files describe, where the shelf tells them: along the history its flat run
--- is defined, and the bytes released on each line are a prefix of that line's output.
-pub record IsRightFor (words : List (List ℕ)) (map : Option Map) (history : List Entry) (released : ℕ → List ℕ) : Type 0 where
+-- The run that the words and the shelf's files ask for, where the shelf tells them: a machine, and the items of a schedule.
+pub record RunFor (words : List (List ℕ)) (map : Option Map) : Type 0 where
   pub desc : MachineDesc
   pub items : List Item
   pub files : List (List ℕ)
   pub asked : (m : Map) → map ≡ Some m → Opens words m None (ready desc items files)
   pub described : IsDescription desc
-  pub right : IsRight desc [] history released
+
+-- before the first event: no history, and nothing released
+pub record IsNothing (status : Status) (history : List Entry) (released : ℕ → List ℕ) : Type 0 where
+  pub early : IsEarly status
+  pub history_is : history ≡ []
+  pub released_is : (l : ℕ) → released l ≡ []
+
+-- The status says which events of the run were made. With what arrived in them the flat run along the history is defined, and the
+-- bytes released on each line are a prefix of that line's output.
+pub record IsRightFor (words : List (List ℕ)) (map : Option Map) (status : Status) (before after : ChronicleView) (old new : List LineView) (history : List Entry) (released : ℕ → List ℕ) : Type 0 where
+  pub asks : RunFor words map
+  pub ending : Ending
+  pub status_is : status ≡ status_of ending
+  pub events : List Event
+  pub ends : EndsWith asks.desc asks.items events before after old new ending
+  pub right : IsRight asks.desc (arrived asks.desc events) history released
 
 -- There is a history, which is what the chronicle got, and on each line the bytes that it accepted are right for it.
-pub record Releases (words : List (List ℕ)) (map : Option Map) (before after : Option (List Entry)) (old new : List LineView) : Type 0 where
+pub record Releases (words : List (List ℕ)) (map : Option Map) (status : Status) (before after : ChronicleView) (old new : List LineView) : Type 0 where
   pub history : List Entry
-  pub appended : Grows before after history
+  pub appended : Grows before.told after.told history
   pub released : ℕ → List ℕ
   pub accepted : AllAccept old new released
-  pub right : IsNothing history released ⊎ IsRightFor words map history released
+  pub right : IsNothing status history released ⊎ IsRightFor words map status before after old new history released
 
--- before the first event: nothing was appended and nothing sent
-pub record Idle (status : Status) (before after : Option (List Entry)) (old new : List LineView) : Type 0 where
+-- before the first event: the chronicle is as before, and nothing was sent
+pub record Idle (status : Status) (before after : ChronicleView) (old new : List LineView) : Type 0 where
   pub early : IsEarly status
-  pub pairs : Grows before after []
-  pub bytes : AllAccept old new (λ _. [])
+  pub chronicle : after ≡ before
+  pub bytes : AllAccept old new (λ l. [])
 
--- the run that the words and the shelf's files ask for
-pub record RunsAsked (words : List (List ℕ)) (map : Option Map) (status : Status) (before after : Option (List Entry)) (old new : List LineView) : Type 0 where
-  pub desc : MachineDesc
-  pub items : List Item
-  pub files : List (List ℕ)
-  pub asked : (m : Map) → map ≡ Some m → Opens words m None (ready desc items files)
-  pub ran : Ran desc (plain_events items) status before after old new
+-- The course of the run that is asked for ended as the status says, after these events, and released exactly what they do.
+pub record RunsAsked (words : List (List ℕ)) (map : Option Map) (status : Status) (before after : ChronicleView) (old new : List LineView) : Type 0 where
+  pub asks : RunFor words map
+  pub ending : Ending
+  pub status_is : status ≡ status_of ending
+  pub takes : Takes asks.desc asks.items ending before after old new
 
--- The history and the bytes are exactly those of the two turn rules, for the events that the status says were made.
-abbrev pub Runs : List (List ℕ) → Option Map → Status → Option (List Entry) → Option (List Entry) → List LineView → List LineView → Type 0
+-- History and bytes are exactly those of the machine, for the events that the status says were made.
+abbrev pub Runs : List (List ℕ) → Option Map → Status → ChronicleView → ChronicleView → List LineView → List LineView → Type 0
 Runs words map status before after old new = Idle status before after old new ⊎ RunsAsked words map status before after old new
+
+-- At the end of each `finish` that ended, all is done: no process can take a step, and each line has released its output. So it is
+-- under Done with all that was made, where the last item is a `finish`.
+pub record FinishesAsked (words : List (List ℕ)) (map : Option Map) (status : Status) (before after : ChronicleView) (old new : List LineView) : Type 0 where
+  pub asks : RunFor words map
+  pub each : FinishesAreDone asks.desc asks.items
+  pub last : status ≡ Done → (front : List Item) (i : Item) (n : ℕ) → asks.items ≡ front ++ i ∷ [] → i.script ≡ scripts.Finish n → (events : List Event) × Released asks.desc events before.told after.told old new × DoneAfter asks.desc events
+
+abbrev pub Finishes : List (List ℕ) → Option Map → Status → ChronicleView → ChronicleView → List LineView → List LineView → Type 0
+Finishes words map status before after old new = Idle status before after old new ⊎ FinishesAsked words map status before after old new
 
 -- A status is given only where the words and the shelf's files ask for it, with the load of one file failing, or of none: so a
 -- fault of the shelf comes only at a file before which none is missing or violates a rule.

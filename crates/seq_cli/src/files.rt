@@ -5,15 +5,17 @@ ghost use Rattle.seq_shelf.specs.Causes.{Rose};
 ghost use Rattle.seq_shelf.specs.Told.{Map};
 ghost use Rattle.seq_manifest.specs.Drafts.{Describes, IsDraft};
 ghost use Rattle.seq_manifest.specs.Faults.{first_fault as description_fault};
+ghost use Rattle.seq_schedule.specs.declared.forms.Gate.TheVariants.{Built};
+ghost use Rattle.seq_schedule.specs.Faultless.{AreFaultless};
+ghost use Rattle.seq_schedule.specs.Rules.{first_fault as schedule_fault};
 ghost use Rattle.seq_cli.specs.Parts.{part_fault, Completes};
-ghost use Rattle.seq_cli.specs.Schedule.{schedule_fault, Schedules};
-ghost use Rattle.seq_cli.specs.Loads.{EndsLoading, Loads, LoadStops, TextStops, status_of};
+ghost use Rattle.seq_cli.specs.Opening.{Schedules};
+ghost use Rattle.seq_cli.specs.Loads.{EndsLoading, Loads, LoadStops, TextStops, error_status};
 
 use crate::Status;
 use crate::parts::read_part;
-use crate::schedule::read_schedule;
 use seq_manifest::{Draft, read as read_description};
-use seq_schedule::Item;
+use seq_schedule::{Item, parse};
 use seq_shelf::{LoadError, Shelf};
 use seq_words::{Bytes, Items, MachineDesc, ReadError};
 use std::alloc::Global;
@@ -53,7 +55,7 @@ fn load<S: Shelf>(shelf: &mut S, files: &Items<Bytes>, name: &str) -> Result<Byt
 // The status of a text that a reader gives no value, where it is that of the next file.
 fn unread(files: &Items<Bytes>, error: ReadError) -> Status
     requires { length files.now < 2 ^ 32 }
-    ensures value { result ≡ status_of (length files.now) error }
+    ensures value { result ≡ error_status (length files.now) error }
     ensures ends { EndsLoading result }
 {
     match error {
@@ -136,6 +138,18 @@ pub fn load_part<S: Shelf>(
     }
 }
 
+// Reads a schedule.
+fn read_schedule(alloc: Global, text: &[u8], desc: &MachineDesc) -> Result<Items<Item>, ReadError>
+    requires { IsDescription desc.now }
+    ensures items { IfOk result (Schedules text.now) }
+    ensures none { OnOk result (schedule_fault Built desc.now text.now ≡ None) }
+    ensures faultless { IfOk result (AreFaultless desc.now) }
+    ensures refused { (place rule : ℕ) → result ≡ Err (ReadError.Refused place rule) →
+        schedule_fault Built desc.now text.now ≡ Some (place, rule) }
+{
+    parse(alloc, text, desc)
+}
+
 /// Loads and reads the schedule.
 #[tactic(auto, using(crate::proofs::Openings::text_stops))]
 pub fn load_schedule<S: Shelf>(
@@ -151,10 +165,11 @@ pub fn load_schedule<S: Shelf>(
     ensures faults { (S.shelf shelf.old).faults ≤ (S.shelf shelf.new).faults }
     ensures cause { IsErrOf result Status.ShelfFault → Rose (S.shelf shelf.old).faults (S.shelf shelf.new).faults }
     ensures ends { IfErr result EndsLoading }
+    ensures faultless { IfOk result (AreFaultless desc.now) }
     ensures ok { (m : Map) → (S.shelf shelf.old).told ≡ Some m →
-        IfOk result (λ items. Loads (schedule_fault desc.now) Schedules (m name.now) files.old files.new items) }
+        IfOk result (λ items. Loads (schedule_fault Built desc.now) Schedules (m name.now) files.old files.new items) }
     ensures err { (m : Map) → (S.shelf shelf.old).told ≡ Some m →
-        IfErr result (λ s. LoadStops s files.old (schedule_fault desc.now) (m name.now)) }
+        IfErr result (λ s. LoadStops s files.old (schedule_fault Built desc.now) (m name.now)) }
 {
     let text = match load(shelf, files, name) {
         Ok(text) => text,

@@ -5,11 +5,8 @@ mod files;
 mod laws;
 mod opening;
 mod parts;
-mod plain;
-mod schedule;
 mod status;
 mod top;
-mod turns;
 
 pub use laws::one_opening;
 pub use status::{Status, number};

@@ -3,15 +3,15 @@ ghost use Rattle.std.specs.Prelude.{◌≡◌, ◌<◌, ◌≤◌, ℕ, [], leng
 ghost use Rattle.seq_words.specs.Description.{IsDescription};
 ghost use Rattle.seq_shelf.specs.Causes.{Rose};
 ghost use Rattle.seq_shelf.specs.Told.{Map};
+ghost use Rattle.seq_schedule.specs.Faultless.{AreFaultless};
 ghost use Rattle.seq_cli.specs.Files.{ready};
-ghost use Rattle.seq_cli.specs.Opening.{is_name, form_of, is_built, OpensForm};
+ghost use Rattle.seq_cli.specs.Opening.{is_name, form_of, OpensForm};
 ghost use Rattle.seq_cli.specs.Endings.{Stops};
 ghost use Rattle.seq_cli.specs.Loads.{EndsLoading};
 
 use crate::Status;
 use crate::files::{load_draft, load_schedule};
 use crate::parts::load_parts;
-use crate::schedule::NOT_BUILT;
 use seq_schedule::Item;
 use seq_shelf::Shelf;
 use seq_words::{Bytes, Items, MachineDesc};
@@ -54,17 +54,6 @@ pub struct Loaded {
     pub files: Items<Bytes>,
 }
 
-// Whether the plain machine runs this description.
-fn is_built(desc: &MachineDesc) -> bool
-    ensures { result ≡ is_built desc.now }
-{
-    desc.processors == 1
-        && desc.ios == 1
-        && desc.segments.len() == 0
-        && desc.processes.len() == 1
-        && desc.processes.at(0).lines.count_ones() <= 1
-}
-
 /// Loads and reads the files in their order: the machine, its parts, the schedule.
 pub fn open<S: Shelf>(
     alloc: Global,
@@ -80,19 +69,13 @@ pub fn open<S: Shelf>(
     ensures err { (m : Map) → (S.shelf shelf.old).told ≡ Some m →
         IfErr result (λ s. (failed : Option ℕ) × Stops (OpensForm m failed (Some (machine.now, schedule.now))) s) }
     ensures described { IfOk result (λ x. IsDescription x.desc) }
+    ensures faultless { IfOk result (λ x. AreFaultless x.desc x.items) }
 {
     let mut files = Items::new(alloc);
     let draft = match load_draft(alloc, shelf, &mut files, machine) {
         Ok(draft) => draft,
         Err(status) => return Err(status),
     };
-    if !is_built(&draft.desc) {
-        return Err(Status::Refused {
-            file: 0,
-            place: 0,
-            rule: NOT_BUILT,
-        });
-    }
     let desc = match load_parts(alloc, shelf, &mut files, draft) {
         Ok(desc) => desc,
         Err(status) => return Err(status),

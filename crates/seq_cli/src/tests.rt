@@ -1,4 +1,4 @@
-// The files of machines that can't be run yet: several images, and files of segments.
+// The files of a machine: several images, and files of segments.
 use crate::Status;
 use crate::files::load_draft;
 use crate::parts::load_parts;

@@ -1,19 +1,51 @@
 // The top call: all that the program does.
-ghost use Rattle.std.specs.Prelude.{◌≡◌, ◌↔◌, ◌≤◌, ℕ, List, [], length, Some, None, false, map as list_map, string_bytes, OnOk, OnErr, ◌+◌, ◌++◌, ◌∷◌, ◌⊎◌};
+ghost use Rattle.std.specs.Prelude.{◌≡◌, ◌↔◌, ◌≤◌, ℕ, List, [], length, Some, None, false, map as list_map, string_bytes, IfOk, OnOk, OnErr, ◌+◌, ◌++◌, ◌∷◌};
 ghost use Rattle.seq_shelf.specs.Causes.{Rose};
 ghost use Rattle.seq_shelf.specs.Outlets.{views, marks};
 ghost use Rattle.seq_shelf.specs.Told.{Map};
-ghost use Rattle.seq_shelf.specs.Rows.{line_at, AreFresh};
+ghost use Rattle.seq_words.specs.Description.{IsDescription};
+ghost use Rattle.seq_shelf.specs.Rows.{line_at, AllAccept, AreFresh};
+ghost use Rattle.seq_schedule.specs.Faultless.{AreFaultless};
+ghost use Rattle.seq_course.specs.Made.{Takes};
 ghost use Rattle.seq_cli.specs.Opening.{form_of, Opens, AsksRun};
-ghost use Rattle.seq_cli.specs.Top.{Releases, Runs, IsAnswered};
+ghost use Rattle.seq_cli.specs.Endings.{EndsFaultless};
+ghost use Rattle.seq_cli.specs.Top.{Releases, Runs, Finishes, IsAnswered};
 
 use crate::Status;
-use crate::opening::{open, read_form};
-use crate::plain::PlainMachine;
-use crate::schedule::plain_events;
+use crate::opening::{Loaded, open, read_form};
+use crate::status::status_of;
+use seq_course::{Ending, run};
+use seq_machine::Hardware;
 use seq_shelf::{Chronicle, Line, Outlet, Shelf, Sink};
 use seq_words::NoMemory;
 use std::alloc::Global;
+
+// Runs what was loaded: makes the machine, and takes the course of the schedule's items on it.
+fn run_loaded<C: Chronicle>(
+    alloc: Global,
+    loaded: Loaded,
+    lines: &mut Vec<Outlet>,
+    chronicle: &mut C,
+) -> Result<Ending, NoMemory>
+    requires described { IsDescription loaded.desc }
+    requires faultless { AreFaultless loaded.desc loaded.items }
+    requires sixteen { length lines.old.items ≡ 16 }
+    requires fresh { AreFresh (views line lines.old.items) (marks lines.old.items) }
+    ensures takes { IfOk result (λ ending. Takes loaded.desc loaded.items ending (C.chronicle chronicle.old) (C.chronicle chronicle.new)
+        (views line lines.old.items) (views line lines.new.items)) }
+    ensures err { OnErr result (C.chronicle chronicle.new ≡ C.chronicle chronicle.old) }
+    ensures err_lines { OnErr result (AllAccept (views line lines.old.items) (views line lines.new.items) (λ l. [])) }
+    ensures hung { marks lines.new.items ≡ marks lines.old.items }
+{
+    let mut hardware = Hardware::new(alloc, loaded.desc)?;
+    run(
+        alloc,
+        loaded.items.as_slice(),
+        &mut hardware,
+        lines,
+        chronicle,
+    )
+}
 
 /// Does what the words ask for: it loads the files, runs the machine, and answers how that ended.
 ///
@@ -31,34 +63,33 @@ pub fn sequoia<S: Shelf, K: Sink, C: Chronicle>(
     requires fresh { AreFresh (views line lines.old.items) (marks lines.old.items) }
 
     // Under every status: the released bytes are a prefix of the flat output along the appended history.
-    ensures released { Releases (list_map string_bytes words.now) (S.shelf shelf.old).told
-        (C.chronicle chronicle.old).told (C.chronicle chronicle.new).told
-        (views line lines.old.items) (views line lines.new.items) }
+    ensures released { Releases (list_map string_bytes words.now) (S.shelf shelf.old).told result
+        (C.chronicle chronicle.old) (C.chronicle chronicle.new) (views line lines.old.items) (views line lines.new.items) }
 
-    // History and bytes are exactly those of the two turn rules.
+    // Under every status: history and bytes are exactly those of the machine, for the events that the status says were made.
     ensures runs { Runs (list_map string_bytes words.now) (S.shelf shelf.old).told result
-        (C.chronicle chronicle.old).told (C.chronicle chronicle.new).told
-        (views line lines.old.items) (views line lines.new.items) }
+        (C.chronicle chronicle.old) (C.chronicle chronicle.new) (views line lines.old.items) (views line lines.new.items) }
 
-    // Each status has its cause.
+    // At the end of each `finish` that ended, all output is released, and no process can take a step.
+    ensures finished { Finishes (list_map string_bytes words.now) (S.shelf shelf.old).told result
+        (C.chronicle chronicle.old) (C.chronicle chronicle.new) (views line lines.old.items) (views line lines.new.items) }
+
+    // Each status has its cause. That of want of memory and of a `finish` that runs out of turns is in `runs`.
     ensures usage { result ≡ Status.Usage ↔ (form_of (list_map string_bytes words.now) ≡ None) }
     ensures answers { (m : Map) → (S.shelf shelf.old).told ≡ Some m →
         IsAnswered (list_map string_bytes words.now) m result }
     ensures shelf_fault { result ≡ Status.ShelfFault → Rose (S.shelf shelf.old).faults (S.shelf shelf.new).faults }
     ensures chronicle_fault { result ≡ Status.ChronicleFault → Rose (C.chronicle chronicle.old).faults (C.chronicle chronicle.new).faults }
-
-    // A fault of the chronicle isn't answered as want of memory: no fault came, or memory was refused to it.
-    ensures chronicle_memory { result ≡ Status.NoMemory → ((C.chronicle chronicle.new).faults ≡ (C.chronicle chronicle.old).faults)
-        ⊎ Rose (C.chronicle chronicle.old).refusals (C.chronicle chronicle.new).refusals }
     ensures line_fault { (l : _) → result ≡ Status.LineFault l →
         Rose (line_at (views line lines.old.items) l.0).faults (line_at (views line lines.new.items) l.0).faults }
 
-    // Where a run is asked for and no count rises, it comes to its end, unless memory is wanting.
-    ensures complete { (m : Map) → (S.shelf shelf.old).told ≡ Some m → AsksRun (Opens (list_map string_bytes words.now) m None)
+    // Where a run is asked for and no count rises, it comes to its end, or to a `finish` that runs out of turns, unless memory is
+    // wanting.
+    ensures complete { (m : Map) → (S.shelf shelf.old).told ≡ Some m → (asks : AsksRun (Opens (list_map string_bytes words.now) m None))
         → ¬ Rose (S.shelf shelf.old).faults (S.shelf shelf.new).faults
         → ¬ Rose (C.chronicle chronicle.old).faults (C.chronicle chronicle.new).faults
         → ((l : ℕ) → ¬ Rose (line_at (views line lines.old.items) l).faults (line_at (views line lines.new.items) l).faults)
-        → (result ≡ Status.Done) ⊎ (result ≡ Status.NoMemory) }
+        → EndsFaultless asks.items result }
 
     // What it leaves alone.
     ensures shelf { (S.shelf shelf.new).told ≡ (S.shelf shelf.old).told }
@@ -73,12 +104,8 @@ pub fn sequoia<S: Shelf, K: Sink, C: Chronicle>(
         Ok(loaded) => loaded,
         Err(status) => return status,
     };
-    let events = match plain_events(alloc, loaded.items.as_slice()) {
-        Ok(events) => events,
-        Err(_) => return Status::NoMemory,
-    };
-    match PlainMachine::new(alloc, loaded.desc) {
-        Ok(mut plain) => plain.run(events.as_slice(), lines, chronicle),
+    match run_loaded(alloc, loaded, lines, chronicle) {
+        Ok(ending) => status_of(&ending),
         Err(_) => Status::NoMemory,
     }
 }

@@ -92,4 +92,6 @@ fn main(rt: HostRuntime) -> ExitCode {
 }
 
 #[cfg(test)]
+mod runs;
+#[cfg(test)]
 mod tests;

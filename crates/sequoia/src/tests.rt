@@ -23,73 +23,92 @@ const HELLO: [u8; 49] = [
 
 // The numbers of the calls that are to fail.
 #[derive(Clone, Copy)]
-struct Failing {
-    loads: &'static [u8],
-    appends: &'static [u8],
-    sends: &'static [u8],
+pub(crate) struct Failing {
+    pub(crate) loads: &'static [u8],
+    pub(crate) appends: &'static [u8],
+    pub(crate) sends: &'static [u8],
 }
 
-const NONE: Failing = Failing {
+pub(crate) const NONE: Failing = Failing {
     loads: &[],
     appends: &[],
     sends: &[],
 };
 
-// A schedule, what fails, and how the run ends: the status, the bytes of line 0, the entries of the history.
+// A machine, a schedule, what fails, and how the run ends: the status, the bytes of line 0, the entries of the history.
 #[derive(Clone, Copy)]
 struct Row {
+    machine: &'static str,
     schedule: &'static str,
     failing: Failing,
     status: Status,
     bytes: &'static [u8],
-    entries: usize,
+    entries: &'static [Entry],
 }
 
-const EIGHT_STEPS: &str =
-    "turn p0\nturn p0\nturn p0\nturn p0\nturn p0\nturn p0\nturn p0\nturn p0\nturn i0\n";
+// More of each element, a segment, and a line that nothing is written on.
+const LARGER: &str =
+    "sequoia 1\nprocessors 3\nmemories 3\nios 2\ncache 16\nquantum 1000\njournal 32\nsegment 64\nprocess hello.sqi lines 0,1 segments 0\n";
 
-const ROWS: [Row; 14] = [
+// All steps of the process, which are committed together.
+const ALL_STEPS: &[Entry] = &[Entry {
+    pid: Pid(0),
+    count: 8,
+}];
+
+const ROWS: [Row; 16] = [
     Row {
-        schedule: EIGHT_STEPS,
+        machine: LARGER,
+        schedule: "finish 1000\n",
         failing: NONE,
         status: Status::Done,
         bytes: &[0x41],
-        entries: 8,
+        entries: ALL_STEPS,
     },
     Row {
-        schedule: "turn p0\nturn p0\nturn p0\nturn p0\nturn p0\nturn i0\n",
+        machine: MACHINE,
+        schedule: "finish 1000\n",
         failing: NONE,
         status: Status::Done,
         bytes: &[0x41],
-        entries: 5,
+        entries: ALL_STEPS,
     },
+    // With all its turns the processor commits the steps, and no I/O element sends.
     Row {
-        schedule: "turn p0\nturn p0\nturn p0\nturn p0\nturn i0\n",
+        machine: MACHINE,
+        schedule: "turns p0 1000\n",
         failing: NONE,
         status: Status::Done,
         bytes: &[],
-        entries: 4,
+        entries: ALL_STEPS,
     },
     Row {
+        machine: MACHINE,
+        schedule: "turns p0 8\nturn i0\n",
+        failing: NONE,
+        status: Status::Done,
+        bytes: &[],
+        entries: &[],
+    },
+    Row {
+        machine: MACHINE,
         schedule: "",
         failing: NONE,
         status: Status::Done,
         bytes: &[],
-        entries: 0,
+        entries: &[],
     },
     Row {
-        schedule: "finish 10\n",
+        machine: MACHINE,
+        schedule: "turn p0\n\nfinish 1\nfinish 1000\n",
         failing: NONE,
-        status: Status::Refused {
-            file: 2,
-            place: 1,
-            rule: 0,
-        },
+        status: Status::OutOfTurns { line: 3 },
         bytes: &[],
-        entries: 0,
+        entries: &[],
     },
     Row {
-        schedule: EIGHT_STEPS,
+        machine: MACHINE,
+        schedule: "finish 1000\n",
         failing: Failing {
             loads: &[],
             appends: &[],
@@ -97,21 +116,23 @@ const ROWS: [Row; 14] = [
         },
         status: Status::LineFault { line: LineNo(0) },
         bytes: &[],
-        entries: 8,
+        entries: ALL_STEPS,
     },
     Row {
-        schedule: EIGHT_STEPS,
+        machine: MACHINE,
+        schedule: "finish 1000\n",
         failing: Failing {
             loads: &[],
-            appends: &[3],
+            appends: &[0],
             sends: &[],
         },
         status: Status::ChronicleFault,
         bytes: &[],
-        entries: 3,
+        entries: &[],
     },
     Row {
-        schedule: EIGHT_STEPS,
+        machine: MACHINE,
+        schedule: "finish 1000\n",
         failing: Failing {
             loads: &[0],
             appends: &[],
@@ -119,10 +140,11 @@ const ROWS: [Row; 14] = [
         },
         status: Status::ShelfFault,
         bytes: &[],
-        entries: 0,
+        entries: &[],
     },
     Row {
-        schedule: EIGHT_STEPS,
+        machine: MACHINE,
+        schedule: "finish 1000\n",
         failing: Failing {
             loads: &[1],
             appends: &[],
@@ -130,10 +152,11 @@ const ROWS: [Row; 14] = [
         },
         status: Status::ShelfFault,
         bytes: &[],
-        entries: 0,
+        entries: &[],
     },
     Row {
-        schedule: EIGHT_STEPS,
+        machine: MACHINE,
+        schedule: "finish 1000\n",
         failing: Failing {
             loads: &[2],
             appends: &[],
@@ -141,16 +164,18 @@ const ROWS: [Row; 14] = [
         },
         status: Status::ShelfFault,
         bytes: &[],
-        entries: 0,
+        entries: &[],
     },
     Row {
-        schedule: "# one step\r\n\n  turn\tp0",
+        machine: MACHINE,
+        schedule: "# all rounds\r\n\n  round\t1000",
         failing: NONE,
         status: Status::Done,
-        bytes: &[],
-        entries: 1,
+        bytes: &[0x41],
+        entries: ALL_STEPS,
     },
     Row {
+        machine: MACHINE,
         schedule: "turn p0\nturn p1\n",
         failing: NONE,
         status: Status::Refused {
@@ -159,9 +184,10 @@ const ROWS: [Row; 14] = [
             rule: 32,
         },
         bytes: &[],
-        entries: 0,
+        entries: &[],
     },
     Row {
+        machine: MACHINE,
         schedule: "turn p0\nturns p0 0\n",
         failing: NONE,
         status: Status::Refused {
@@ -170,11 +196,20 @@ const ROWS: [Row; 14] = [
             rule: 31,
         },
         bytes: &[],
-        entries: 0,
+        entries: &[],
     },
-    // The plain machine runs single turns alone.
     Row {
-        schedule: "turn p0\nturn i0\nround 1\n",
+        machine: MACHINE,
+        schedule: "input 0 41\nclose 0\nfinish 1000\n",
+        failing: NONE,
+        status: Status::Done,
+        bytes: &[0x41],
+        entries: ALL_STEPS,
+    },
+    // No element fails yet.
+    Row {
+        machine: MACHINE,
+        schedule: "turn p0\nturn i0\nfail p0\n",
         failing: NONE,
         status: Status::Refused {
             file: 2,
@@ -182,11 +217,11 @@ const ROWS: [Row; 14] = [
             rule: 0,
         },
         bytes: &[],
-        entries: 0,
+        entries: &[],
     },
 ];
 
-fn words_of(alloc: Global, words: &[&str]) -> Result<Vec<String>, AllocError> {
+pub(crate) fn words_of(alloc: Global, words: &[&str]) -> Result<Vec<String>, AllocError> {
     let mut all = Vec::new(alloc);
     for word in words {
         all.push(String::from_str(alloc, word)?)?;
@@ -195,11 +230,16 @@ fn words_of(alloc: Global, words: &[&str]) -> Result<Vec<String>, AllocError> {
 }
 
 // A line that fails at those calls of `send`.
-fn failing_line(alloc: Global, sends: &'static [u8]) -> Result<MemLine, NoMemory>
+pub(crate) fn failing_line(alloc: Global, sends: &'static [u8]) -> Result<MemLine, NoMemory>
     ensures fresh { IfOk result (λ line. (⟦<MemLine as Line>⟧.line line).count ≡ 0) }
 {
     let failing = Bytes::copy_of(alloc, sends)?;
     Ok(MemLine::new(alloc, failing))
+}
+
+// Whether these entries were appended.
+fn are(found: &[Entry], wanted: &[Entry]) -> bool {
+    found == wanted
 }
 
 // The contents of the files `a1.txt`, `hello.sqi` and `s.txt`.
@@ -210,15 +250,14 @@ struct Files {
     schedule: &'static str,
 }
 
-// Runs a command over files in memory: how it ended, and how many entries of one step of process 0 were appended, if all
-// are such.
+// Runs a command over files in memory: how it ended, and the entries that were appended.
 fn run(
     alloc: Global,
     words: &'static [&'static str],
     files: Files,
     failing: Failing,
     lines: &mut Vec<Outlet>,
-) -> Result<(Status, Option<usize>), Fail>
+) -> Result<(Status, Vec<Entry>), Fail>
     requires sixteen { length lines.old.items ≡ 16 }
     requires fresh { AreFresh (views line lines.old.items) (marks lines.old.items) }
 {
@@ -230,13 +269,9 @@ fn run(
     let mut chronicle = MemChronicle::new(alloc, Bytes::copy_of(alloc, failing.appends)?);
     let words = words_of(alloc, words)?;
     let status = sequoia(alloc, &words, &mut shelf, lines, &mut chronicle, &mut sink);
-    let pairs = chronicle.pairs();
-    let step = Entry {
-        pid: Pid(0),
-        count: 1,
-    };
-    let all_steps = pairs.iter().all(|pair| *pair == step);
-    Ok((status, if all_steps { Some(pairs.len()) } else { None }))
+    let mut entries = Vec::new(alloc);
+    entries.extend_from_slice(chronicle.pairs())?;
+    Ok((status, entries))
 }
 
 const RUN: &[&str] = &["run", "a1.txt", "s.txt"];
@@ -251,13 +286,13 @@ fn rows(rt: HostRuntime) -> Result<(), Fail> {
             add_line(&mut lines, Box::new(alloc, line)?)?;
         }
         let files = Files {
-            machine: MACHINE,
+            machine: row.machine,
             image: &HELLO,
             schedule: row.schedule,
         };
         let (status, entries) = run(alloc, RUN, files, row.failing, &mut lines)?;
         assert_eq!(rt; status, row.status, "{}", row.schedule);
-        assert_eq!(rt; entries, Some(row.entries));
+        assert!(rt; are(&entries, row.entries));
         assert_eq!(rt; lines.len(), 16);
         assert_eq!(rt; lines[0].line.accepted(), row.bytes.len() as u64);
         assert_eq!(rt; lines[0].line.byte_at(0), row.bytes.first().copied());
@@ -280,7 +315,7 @@ struct Early {
     status: Status,
 }
 
-const OPENINGS: [Early; 19] = [
+const OPENINGS: [Early; 18] = [
     Early {
         words: &[],
         machine: MACHINE,
@@ -346,17 +381,6 @@ const OPENINGS: [Early; 19] = [
             file: 0,
             place: 2,
             rule: 12,
-        },
-    },
-    Early {
-        words: RUN,
-        machine: "sequoia 1\nprocessors 2\nmemories 2\nios 1\ncache 16\nquantum 1000\njournal 32\nprocess hello.sqi lines 0 segments -\n",
-        image: &HELLO,
-        failing: NONE,
-        status: Status::Refused {
-            file: 0,
-            place: 0,
-            rule: 0,
         },
     },
     Early {
@@ -482,29 +506,29 @@ fn openings(rt: HostRuntime) -> Result<(), Fail> {
         let files = Files {
             machine: row.machine,
             image: row.image,
-            schedule: EIGHT_STEPS,
+            schedule: "finish 1000\n",
         };
         let (status, entries) = run(alloc, row.words, files, row.failing, &mut lines)?;
         assert_eq!(rt; status, row.status);
-        assert_eq!(rt; entries, Some(0));
+        assert!(rt; entries.is_empty());
         assert_eq!(rt; lines.len(), 16);
         assert_eq!(rt; accepted(&lines, 0), 0);
     }
     Ok(())
 }
 
-// A schedule of so many turns of the processor, and one of the I/O element.
+// A schedule of so many turns of the processor, and rounds to the end.
 fn turns(alloc: Global, count: usize) -> Result<Vec<u8>, AllocError> {
     let mut text = Vec::new(alloc);
     for _ in 0..count {
         text.extend_from_slice(b"turn p0\n")?;
     }
-    text.extend_from_slice(b"turn i0\n")?;
+    text.extend_from_slice(b"finish 1000\n")?;
     Ok(text)
 }
 
 // Commands over files: the words, the turns of the processor, the exit status, and the bytes of line 0 in its file, where
-// there is one. The long schedule has 2,400,008 bytes.
+// there is one. The long schedule has 2,400,012 bytes.
 const COMMANDS: [(&[&str], usize, u8, Option<&str>); 5] = [
     (RUN, 8, 0, Some("A")),
     (RUN, 300_000, 0, Some("A")),

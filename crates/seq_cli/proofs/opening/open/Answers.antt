@@ -1,13 +1,14 @@
-use Rattle.std.proofs.Common.{◌≡◌, ◌∙◌, ◌<◌, sym, subst, refl, arith, List, [], None, ℕ, true, length}
+use Rattle.std.proofs.Common.{◌∙◌, ◌<◌, subst, refl, arith, List, [], None, ℕ, length}
 use Rattle.seq_manifest.specs.Drafts.{Describes}
 use Rattle.seq_manifest.specs.Faults.{first_fault as description_fault}
-use Rattle.seq_cli.specs.Files.{refused, ready}
+use Rattle.seq_schedule.specs.declared.forms.Gate.TheVariants.{Built}
+use Rattle.seq_schedule.specs.Rules.{first_fault as schedule_fault}
+use Rattle.seq_cli.specs.Files.{ready}
 use Rattle.seq_cli.specs.Parts.{names_of, OpensParts}
-use Rattle.seq_cli.specs.Schedule.{schedule_fault, Schedules}
-use Rattle.seq_cli.specs.Opening.{is_built, OpensBuilt, OpensMachine, OpensSchedule, OpensItems}
-use Rattle.seq_cli.specs.Endings.{ending_of}
+use Rattle.seq_cli.specs.Opening.{Schedules, OpensMachine, OpensSchedule, OpensItems}
+use Rattle.seq_cli.specs.Endings.{moment_of}
 use Rattle.seq_cli.specs.Loads.{Loads, LoadStops, failed_of}
-use Rattle.seq_cli.proofs.Openings.{ends_more, stops_file, stops_next, stops_built, stops_record, opens_file, opens_parts, parts_longer, earlier}
+use Rattle.seq_cli.proofs.Openings.{ends_more, stops_file, stops_next, stops_record, opens_file, opens_parts, parts_longer, earlier}
 use Rattle.seq_cli.proofs.opening.open.Goals as goal
 
 pub returns-in-Err-clause-err : goal.returns-in-Err-clause-err
@@ -16,30 +17,19 @@ returns-in-Err-clause-err g c = λ m told.
     let stops = subst (λ (files : List (List ℕ)). LoadStops c.in-Err.status files description_fault (m c.args.machine.now)) c.new-files.ensures (c.in-Err.ensures.err m told) in
     (failed, stops_file c.in-Err.status [] description_fault Describes (OpensMachine m failed c.args.schedule.now) (m c.args.machine.now) stops)
 
-pub returns-then-not-is_built-clause-err : goal.returns-then-not-is_built-clause-err
-returns-then-not-is_built-clause-err g c = λ m told.
-    let files = c.load_draft.new.files in
-    let draft = c.in-Ok.draft in
-    let loads = subst (λ (none : List (List ℕ)). Loads description_fault Describes (m c.args.machine.now) none files draft) c.new-files.ensures (c.in-Ok.ensures.ok m told) in (
-      None,
-      opens_file None description_fault Describes (OpensMachine m None c.args.schedule.now) (m c.args.machine.now) [] files draft (refused 0 0 0) refl loads
-          (subst (λ b. OpensBuilt b m None c.args.schedule.now files draft (refused 0 0 0)) c.if-not-is_built.ensures refl),
-    )
-
 pub returns-in-Err-load_parts-clause-err : goal.returns-in-Err-load_parts-clause-err
 returns-in-Err-load_parts-clause-err g c = λ m told.
     let status = c.in-Err-load_parts.status in
     let files = c.load_draft.new.files in
     let draft = c.in-Ok.draft in
     let loads = subst (λ (none : List (List ℕ)). Loads description_fault Describes (m c.args.machine.now) none files draft) c.new-files.ensures (c.in-Ok.ensures.ok m told) in
-    let built : is_built draft.desc ≡ true = sym c.if-not-is_built.ensures in
     let stop = c.in-Err-load_parts.ensures.err m (c.in-Ok.ensures.same ∙ told) in
     let failed = failed_of status (length stop.files) in
     let longer = parts_longer m 0 stop.front files draft.desc stop.files stop.desc stop.loaded in
     let first : 0 < length stop.files = omega (arith, longer, c.in-Ok.ensures.one) in (
       failed,
       stops_next status failed description_fault Describes (OpensMachine m failed c.args.schedule.now) (m c.args.machine.now) [] files draft (earlier status (length stop.files) 0 first) loads
-          (stops_built status m failed c.args.schedule.now files draft built (stops_record m status (names_of draft) files draft.desc (OpensSchedule m failed c.args.schedule.now) stop)),
+          (stops_record m status (names_of draft) files draft.desc (OpensSchedule m failed c.args.schedule.now) stop),
     )
 
 pub returns-in-Err-load_schedule-clause-err : goal.returns-in-Err-load_schedule-clause-err
@@ -50,19 +40,15 @@ returns-in-Err-load_schedule-clause-err g c = λ m told.
     let draft = c.in-Ok.draft in
     let desc = c.in-Ok-load_parts.desc in
     let loads = subst (λ (none : List (List ℕ)). Loads description_fault Describes (m c.args.machine.now) none files draft) c.new-files.ensures (c.in-Ok.ensures.ok m told) in
-    let built : is_built draft.desc ≡ true = sym c.if-not-is_built.ensures in
     let told_parts = c.in-Ok.ensures.same ∙ told in
     let parts = c.in-Ok-load_parts.ensures.ok m told_parts in
     let failed = failed_of status (length after) in
     let longer = parts_longer m 0 (names_of draft) files draft.desc after desc parts in
     let first : 0 < length after = omega (arith, longer, c.in-Ok.ensures.one) in
-    let stops = stops_file status after (schedule_fault desc) Schedules (OpensItems desc) (m c.args.schedule.now) (c.in-Err-load_schedule.ensures.err m (c.in-Ok-load_parts.ensures.same ∙ told_parts)) in
+    let stops = stops_file status after (schedule_fault Built desc) Schedules (OpensItems desc) (m c.args.schedule.now) (c.in-Err-load_schedule.ensures.err m (c.in-Ok-load_parts.ensures.same ∙ told_parts)) in
     let behind = ends_more (OpensSchedule m failed c.args.schedule.now after desc) (OpensParts m failed 0 (names_of draft) files draft.desc (OpensSchedule m failed c.args.schedule.now))
-    (λ o. opens_parts m failed 0 (names_of draft) files draft.desc after desc (OpensSchedule m failed c.args.schedule.now) o (λ k lt. earlier status (length after) k lt) parts) (ending_of status) stops in (
-      failed,
-      stops_next status failed description_fault Describes (OpensMachine m failed c.args.schedule.now) (m c.args.machine.now) [] files draft (earlier status (length after) 0 first) loads
-          (stops_built status m failed c.args.schedule.now files draft built behind),
-    )
+    (λ o. opens_parts m failed 0 (names_of draft) files draft.desc after desc (OpensSchedule m failed c.args.schedule.now) o (λ k lt. earlier status (length after) k lt) parts) (moment_of status) stops in
+    (failed, stops_next status failed description_fault Describes (OpensMachine m failed c.args.schedule.now) (m c.args.machine.now) [] files draft (earlier status (length after) 0 first) loads behind)
 
 pub returns-clause-ok : goal.returns-clause-ok
 returns-clause-ok g c = λ m told.
@@ -71,12 +57,10 @@ returns-clause-ok g c = λ m told.
     let draft = c.in-Ok.draft in
     let desc = c.in-Ok-load_parts.desc in
     let loads = subst (λ (none : List (List ℕ)). Loads description_fault Describes (m c.args.machine.now) none files draft) c.new-files.ensures (c.in-Ok.ensures.ok m told) in
-    let built : is_built draft.desc ≡ true = sym c.if-not-is_built.ensures in
     let told_parts = c.in-Ok.ensures.same ∙ told in
     let parts = c.in-Ok-load_parts.ensures.ok m told_parts in
     let items = c.in-Ok-load_schedule.ensures.ok m (c.in-Ok-load_parts.ensures.same ∙ told_parts) in
     let end = ready desc c.in-Ok-load_schedule.items c.load_schedule.new.files in
-    let last = opens_file None (schedule_fault desc) Schedules (OpensItems desc) (m c.args.schedule.now) after c.load_schedule.new.files c.in-Ok-load_schedule.items end refl items refl in
+    let last = opens_file None (schedule_fault Built desc) Schedules (OpensItems desc) (m c.args.schedule.now) after c.load_schedule.new.files c.in-Ok-load_schedule.items end refl items refl in
     opens_file None description_fault Describes (OpensMachine m None c.args.schedule.now) (m c.args.machine.now) [] files draft end refl loads
-    (subst (λ b. OpensBuilt b m None c.args.schedule.now files draft end) (sym built)
-    (opens_parts m None 0 (names_of draft) files draft.desc after desc (OpensSchedule m None c.args.schedule.now) end (λ k lt. refl) parts last))
+    (opens_parts m None 0 (names_of draft) files draft.desc after desc (OpensSchedule m None c.args.schedule.now) end (λ k lt. refl) parts last)

@@ -1,0 +1,433 @@
+// Whole runs on machines in memory: how they end, the bytes that they release, and the history that they write.
+ghost use Rattle.std.specs.Prelude.{◌≡◌, length};
+ghost use Rattle.seq_shelf.specs.Outlets.{views, marks};
+ghost use Rattle.seq_shelf.specs.Rows.{AreFresh};
+
+use super::*;
+use crate::tests::{Failing, NONE, failing_line, words_of};
+use rand_core::Rng;
+use rand_pcg::Pcg32;
+use seq_shelf::{Line, MemChronicle, MemShelf, Outlet, SoundSink};
+use seq_words::{Bytes, Entry, LineNo, NoMemory, Pid};
+use std::test::Fail;
+
+// A program: the name of its image's file, and the image: a header of sixteen bytes, and the bytes from address 0 on.
+#[derive(Clone, Copy)]
+struct Program {
+    name: &'static str,
+    image: &'static [u8],
+}
+
+const PROGRAMS: [Program; 7] = [
+    // Writes the byte 41 and exits.
+    Program {
+        name: "hello.sqi",
+        image: &[
+            0x53, 0x51, 0x49, 0x31, 0x40, 0x00, 0x00, 0x00, 0x21, 0x00, 0x00, 0x00, 0x00, 0x00,
+            0x00, 0x00, 0x13, 0x05, 0x00, 0x00, 0x93, 0x05, 0x00, 0x02, 0x13, 0x06, 0x10, 0x00,
+            0x93, 0x08, 0x40, 0x00, 0x73, 0x00, 0x00, 0x00, 0x13, 0x05, 0x00, 0x00, 0x93, 0x08,
+            0x00, 0x00, 0x73, 0x00, 0x00, 0x00, 0x41,
+        ],
+    },
+    // Writes the bytes 41 42 43 and exits.
+    Program {
+        name: "hello3.sqi",
+        image: &[
+            0x53, 0x51, 0x49, 0x31, 0x40, 0x00, 0x00, 0x00, 0x23, 0x00, 0x00, 0x00, 0x00, 0x00,
+            0x00, 0x00, 0x13, 0x05, 0x00, 0x00, 0x93, 0x05, 0x00, 0x02, 0x13, 0x06, 0x30, 0x00,
+            0x93, 0x08, 0x40, 0x00, 0x73, 0x00, 0x00, 0x00, 0x13, 0x05, 0x00, 0x00, 0x93, 0x08,
+            0x00, 0x00, 0x73, 0x00, 0x00, 0x00, 0x41, 0x42, 0x43,
+        ],
+    },
+    // Adds 1 to the number in segment 0 a hundred times, each time under its lock. Process 0 then looks at it until it is 200,
+    // and writes it as a byte.
+    Program {
+        name: "count.sqi",
+        image: &[
+            0x53, 0x51, 0x49, 0x31, 0x00, 0x02, 0x00, 0x00, 0x88, 0x00, 0x00, 0x00, 0x00, 0x00,
+            0x00, 0x00, 0x13, 0x04, 0x40, 0x06, 0xb7, 0x04, 0x00, 0x40, 0x13, 0x05, 0x00, 0x00,
+            0x93, 0x08, 0x10, 0x00, 0x73, 0x00, 0x00, 0x00, 0x83, 0xa2, 0x04, 0x00, 0x93, 0x82,
+            0x12, 0x00, 0x23, 0xa0, 0x54, 0x00, 0x13, 0x05, 0x00, 0x00, 0x93, 0x08, 0x20, 0x00,
+            0x73, 0x00, 0x00, 0x00, 0x13, 0x04, 0xf4, 0xff, 0xe3, 0x1c, 0x04, 0xfc, 0x93, 0x08,
+            0x50, 0x00, 0x73, 0x00, 0x00, 0x00, 0x63, 0x10, 0x05, 0x04, 0x13, 0x03, 0x80, 0x0c,
+            0x13, 0x05, 0x00, 0x00, 0x93, 0x08, 0x10, 0x00, 0x73, 0x00, 0x00, 0x00, 0x83, 0xa2,
+            0x04, 0x00, 0x13, 0x05, 0x00, 0x00, 0x93, 0x08, 0x20, 0x00, 0x73, 0x00, 0x00, 0x00,
+            0xe3, 0x92, 0x62, 0xfe, 0x23, 0x00, 0x50, 0x10, 0x13, 0x05, 0x00, 0x00, 0x93, 0x05,
+            0x00, 0x10, 0x13, 0x06, 0x10, 0x00, 0x93, 0x08, 0x40, 0x00, 0x73, 0x00, 0x00, 0x00,
+            0x13, 0x05, 0x00, 0x00, 0x93, 0x08, 0x00, 0x00, 0x73, 0x00, 0x00, 0x00,
+        ],
+    },
+    // Stores a number into each of 17 blocks and exits: two steps, three for each block, and three.
+    Program {
+        name: "spread.sqi",
+        image: &[
+            0x53, 0x51, 0x49, 0x31, 0x00, 0x10, 0x00, 0x00, 0x20, 0x00, 0x00, 0x00, 0x00, 0x00,
+            0x00, 0x00, 0x93, 0x02, 0x00, 0x40, 0x13, 0x03, 0x00, 0x62, 0x23, 0xa0, 0x52, 0x00,
+            0x93, 0x82, 0x02, 0x02, 0xe3, 0x9c, 0x62, 0xfe, 0x13, 0x05, 0x00, 0x00, 0x93, 0x08,
+            0x00, 0x00, 0x73, 0x00, 0x00, 0x00,
+        ],
+    },
+    // Writes each byte that it reads: eleven steps a byte, and seven after the last.
+    Program {
+        name: "echo.sqi",
+        image: &[
+            0x53, 0x51, 0x49, 0x31, 0x00, 0x02, 0x00, 0x00, 0x38, 0x00, 0x00, 0x00, 0x00, 0x00,
+            0x00, 0x00, 0x13, 0x05, 0x00, 0x00, 0x93, 0x08, 0x30, 0x00, 0x73, 0x00, 0x00, 0x00,
+            0x63, 0x40, 0x05, 0x02, 0x23, 0x00, 0xa0, 0x10, 0x13, 0x05, 0x00, 0x00, 0x93, 0x05,
+            0x00, 0x10, 0x13, 0x06, 0x10, 0x00, 0x93, 0x08, 0x40, 0x00, 0x73, 0x00, 0x00, 0x00,
+            0x6f, 0xf0, 0x9f, 0xfd, 0x13, 0x05, 0x00, 0x00, 0x93, 0x08, 0x00, 0x00, 0x73, 0x00,
+            0x00, 0x00,
+        ],
+    },
+    // Jumps to itself.
+    Program {
+        name: "loop.sqi",
+        image: &[
+            0x53, 0x51, 0x49, 0x31, 0x40, 0x00, 0x00, 0x00, 0x04, 0x00, 0x00, 0x00, 0x00, 0x00,
+            0x00, 0x00, 0x6f, 0x00, 0x00, 0x00,
+        ],
+    },
+    // Stores into segment 0, which it doesn't hold: lui x9, 0x40000; sw x5, 0(x9).
+    Program {
+        name: "trap.sqi",
+        image: &[
+            0x53, 0x51, 0x49, 0x31, 0x40, 0x00, 0x00, 0x00, 0x08, 0x00, 0x00, 0x00, 0x00, 0x00,
+            0x00, 0x00, 0xb7, 0x04, 0x00, 0x40, 0x23, 0xa0, 0x54, 0x00,
+        ],
+    },
+];
+
+const HELLO: &str =
+    "sequoia 1\nprocessors 1\nmemories 2\nios 1\ncache 16\nquantum 1000\njournal 32\nprocess hello.sqi lines 0 segments -\n";
+
+const HELLO3: &str =
+    "sequoia 1\nprocessors 1\nmemories 2\nios 1\ncache 16\nquantum 1000\njournal 32\nprocess hello3.sqi lines 0 segments -\n";
+
+const SPREAD: &str =
+    "sequoia 1\nprocessors 1\nmemories 2\nios 1\ncache 16\nquantum 1000\njournal 32\nprocess spread.sqi lines 0 segments -\n";
+
+const ECHO: &str =
+    "sequoia 1\nprocessors 1\nmemories 2\nios 1\ncache 16\nquantum 1000\njournal 32\nprocess echo.sqi lines 0 segments -\n";
+
+const LOOP: &str =
+    "sequoia 1\nprocessors 1\nmemories 2\nios 1\ncache 16\nquantum 1000\njournal 32\nprocess loop.sqi lines 0 segments -\n";
+
+const TRAPPED: &str =
+    "sequoia 1\nprocessors 1\nmemories 2\nios 1\ncache 16\nquantum 1000\njournal 32\nprocess trap.sqi lines 0 segments -\n";
+
+// Two processes that add under one lock, on two processors.
+const TWO: &str =
+    "sequoia 1\nprocessors 2\nmemories 2\nios 2\ncache 16\nquantum 1000\njournal 32\nsegment 32\nprocess count.sqi lines 0 segments 0\nprocess count.sqi lines - segments 0\n";
+
+// A machine, a schedule and what fails; how the run ends, the bytes of line 0, and the history: process and steps of each entry.
+#[derive(Clone, Copy)]
+struct Run {
+    machine: &'static str,
+    schedule: &'static str,
+    failing: Failing,
+    status: Status,
+    bytes: &'static [u8],
+    history: &'static [(u8, u32)],
+}
+
+const RUNS: [Run; 17] = [
+    Run {
+        machine: HELLO,
+        schedule: "finish 10000\n",
+        failing: NONE,
+        status: Status::Done,
+        bytes: &[0x41],
+        history: &[(0, 8)],
+    },
+    Run {
+        machine: HELLO,
+        schedule: "",
+        failing: NONE,
+        status: Status::Done,
+        bytes: &[],
+        history: &[],
+    },
+    // The commit is the processor's turn 22.
+    Run {
+        machine: HELLO,
+        schedule: "turns p0 21\n",
+        failing: NONE,
+        status: Status::Done,
+        bytes: &[],
+        history: &[],
+    },
+    Run {
+        machine: HELLO,
+        schedule: "turns p0 22\n",
+        failing: NONE,
+        status: Status::Done,
+        bytes: &[],
+        history: &[(0, 8)],
+    },
+    // Nothing is sent before the flush has written Run to the primary of the status word.
+    Run {
+        machine: HELLO,
+        schedule: "turns p0 32\nturns i0 5\n",
+        failing: NONE,
+        status: Status::Done,
+        bytes: &[],
+        history: &[(0, 8)],
+    },
+    Run {
+        machine: HELLO,
+        schedule: "turns p0 33\nturn i0\n",
+        failing: NONE,
+        status: Status::Done,
+        bytes: &[0x41],
+        history: &[(0, 8)],
+    },
+    // Comments, blank lines and rounds.
+    Run {
+        machine: HELLO,
+        schedule: "# all of it\r\n\n  round\t36",
+        failing: NONE,
+        status: Status::Done,
+        bytes: &[0x41],
+        history: &[(0, 8)],
+    },
+    // Two rounds are too few, and the rest of the schedule isn't run.
+    Run {
+        machine: HELLO,
+        schedule: "finish 2\nfinish 10000\n",
+        failing: NONE,
+        status: Status::OutOfTurns { line: 1 },
+        bytes: &[],
+        history: &[],
+    },
+    Run {
+        machine: TRAPPED,
+        schedule: "finish 1000\n",
+        failing: NONE,
+        status: Status::Done,
+        bytes: &[],
+        history: &[(0, 2)],
+    },
+    // The cache has 16 blocks, and the program changes 17.
+    Run {
+        machine: SPREAD,
+        schedule: "finish 10000\n",
+        failing: NONE,
+        status: Status::Done,
+        bytes: &[],
+        history: &[(0, 50), (0, 6)],
+    },
+    Run {
+        machine: LOOP,
+        schedule: "finish 3\n",
+        failing: NONE,
+        status: Status::OutOfTurns { line: 1 },
+        bytes: &[],
+        history: &[],
+    },
+    Run {
+        machine: ECHO,
+        schedule: "input 0 4142\nclose 0\nfinish 10000\n",
+        failing: NONE,
+        status: Status::Done,
+        bytes: &[0x41, 0x42],
+        history: &[(0, 29)],
+    },
+    // Without the end of its input the program waits, which is settled too.
+    Run {
+        machine: ECHO,
+        schedule: "input 0 41\nfinish 10000\ninput 0 42\nfinish 10000\n",
+        failing: NONE,
+        status: Status::Done,
+        bytes: &[0x41, 0x42],
+        history: &[(0, 13), (0, 11)],
+    },
+    Run {
+        machine: HELLO3,
+        schedule: "finish 10000\n",
+        failing: Failing {
+            loads: &[],
+            appends: &[],
+            sends: &[2],
+        },
+        status: Status::LineFault { line: LineNo(0) },
+        bytes: &[0x41, 0x42],
+        history: &[(0, 8)],
+    },
+    Run {
+        machine: HELLO,
+        schedule: "finish 10000\n",
+        failing: Failing {
+            loads: &[],
+            appends: &[0],
+            sends: &[],
+        },
+        status: Status::ChronicleFault,
+        bytes: &[],
+        history: &[],
+    },
+    Run {
+        machine: SPREAD,
+        schedule: "finish 10000\n",
+        failing: Failing {
+            loads: &[],
+            appends: &[1],
+            sends: &[],
+        },
+        status: Status::ChronicleFault,
+        bytes: &[],
+        history: &[(0, 50)],
+    },
+    Run {
+        machine: TWO,
+        schedule: "turn p2\n",
+        failing: NONE,
+        status: Status::Refused {
+            file: 3,
+            place: 1,
+            rule: 32,
+        },
+        bytes: &[],
+        history: &[],
+    },
+];
+
+// A shelf with a machine, a schedule, and the images of all programs.
+fn shelf_of(
+    alloc: Global,
+    machine: &'static str,
+    schedule: &[u8],
+    failing: Failing,
+) -> Result<MemShelf, Fail> {
+    let mut shelf = MemShelf::new(alloc, Bytes::copy_of(alloc, failing.loads)?);
+    shelf.put("m.txt", machine.as_bytes())?;
+    shelf.put("s.txt", schedule)?;
+    for program in PROGRAMS {
+        shelf.put(program.name, program.image)?;
+    }
+    Ok(shelf)
+}
+
+// Runs the schedule on a shelf: how that ended, and the chronicle.
+fn run_on(
+    alloc: Global,
+    shelf: &mut MemShelf,
+    failing: Failing,
+    lines: &mut Vec<Outlet>,
+) -> Result<(Status, MemChronicle), Fail>
+    requires sixteen { length lines.old.items ≡ 16 }
+    requires fresh { AreFresh (views line lines.old.items) (marks lines.old.items) }
+{
+    let mut sink = SoundSink::new(alloc);
+    let mut chronicle = MemChronicle::new(alloc, Bytes::copy_of(alloc, failing.appends)?);
+    let words = words_of(alloc, &["run", "m.txt", "s.txt"])?;
+    let status = sequoia(alloc, &words, shelf, lines, &mut chronicle, &mut sink);
+    Ok((status, chronicle))
+}
+
+// Whether the entries are these.
+fn are_entries(found: &[Entry], wanted: &[(u8, u32)]) -> bool {
+    found.len() == wanted.len()
+        && found.iter().zip(wanted.iter()).all(|(entry, (pid, count))| entry.pid == Pid(*pid)
+            && entry.count == *count)
+}
+
+// Whether there is this line, and it has accepted these bytes and no more.
+fn has_accepted(lines: &Vec<Outlet>, at: usize, wanted: &[u8]) -> bool {
+    if at >= lines.len() {
+        return false;
+    }
+    let accepted = lines[at].line.accepted();
+    let mut all = accepted == wanted.len() as u64;
+    for n in 0..wanted.len() {
+        all = all && lines[at].line.byte_at(n as u64) == Some(wanted[n]);
+    }
+    all
+}
+
+// Runs a row: whether it ended so, with these bytes and this history, and nothing on the other lines.
+fn comes_out(alloc: Global, row: &Run, lines: &mut Vec<Outlet>) -> Result<bool, Fail>
+    requires sixteen { length lines.old.items ≡ 16 }
+    requires fresh { AreFresh (views line lines.old.items) (marks lines.old.items) }
+{
+    let mut shelf = shelf_of(alloc, row.machine, row.schedule.as_bytes(), row.failing)?;
+    let (status, chronicle) = run_on(alloc, &mut shelf, row.failing, lines)?;
+    Ok(
+        status == row.status
+            && are_entries(chronicle.pairs(), row.history)
+            && has_accepted(lines, 0, row.bytes)
+            && has_accepted(lines, 1, &[]),
+    )
+}
+
+#[test]
+fn runs(rt: HostRuntime) -> Result<(), Fail> {
+    let alloc = rt.alloc();
+    for row in RUNS {
+        let mut lines = Vec::new(alloc);
+        for n in 0u8..16 {
+            let line = failing_line(alloc, row.failing.sends)?;
+            add_line(&mut lines, Box::new(alloc, line)?)?;
+        }
+        assert!(rt; comes_out(alloc, &row, &mut lines)?, "{}", row.schedule);
+    }
+    Ok(())
+}
+
+// The same on four processors, and on eight.
+const FOUR: &str =
+    "sequoia 1\nprocessors 4\nmemories 3\nios 2\ncache 16\nquantum 100\njournal 32\nsegment 32\nprocess count.sqi lines 0 segments 0\nprocess count.sqi lines - segments 0\n";
+
+const EIGHT: &str =
+    "sequoia 1\nprocessors 8\nmemories 8\nios 1\ncache 16\nquantum 7\njournal 32\nsegment 32\nprocess count.sqi lines 0 segments 0\nprocess count.sqi lines - segments 0\n";
+
+// Turns of processors in an order that is drawn from a number, and then the rest of the run.
+fn drawn_schedule(alloc: Global, number: u64, processors: u8) -> Result<Vec<u8>, AllocError> {
+    let mut generator = Pcg32::new(number, 0);
+    let mut text = Vec::new(alloc);
+    for _ in 0..20_000 {
+        let drawn = (generator.next_u32() % 8) as u8;
+        if drawn < processors {
+            text.extend_from_slice(b"turn p")?;
+            text.push(b'0' + drawn)?;
+            text.push(b'\n')?;
+        }
+    }
+    text.extend_from_slice(b"finish 1000000\n")?;
+    Ok(text)
+}
+
+// The number of processors on which an order is tried, with the machine.
+fn counting_machine(number: u64) -> (u8, &'static str) {
+    match number % 3 {
+        0 => (2, TWO),
+        1 => (4, FOUR),
+        _ => (8, EIGHT),
+    }
+}
+
+// Runs an order that is drawn from a number: whether both have added a hundred times, so that line 0 gets 200.
+fn counts(alloc: Global, number: u64, lines: &mut Vec<Outlet>) -> Result<bool, Fail>
+    requires sixteen { length lines.old.items ≡ 16 }
+    requires fresh { AreFresh (views line lines.old.items) (marks lines.old.items) }
+{
+    let (processors, machine) = counting_machine(number);
+    let schedule = drawn_schedule(alloc, number, processors)?;
+    let mut shelf = shelf_of(alloc, machine, schedule.as_slice(), NONE)?;
+    let (status, chronicle) = run_on(alloc, &mut shelf, NONE, lines)?;
+    Ok(status == Status::Done && has_accepted(lines, 0, &[200]) && chronicle.pairs().len() > 200)
+}
+
+// Sixty orders, twenty on each of the three machines.
+#[test]
+fn counts_in_any_order(rt: HostRuntime) -> Result<(), Fail> {
+    let alloc = rt.alloc();
+    for number in 0u64..60 {
+        let mut lines = Vec::new(alloc);
+        for n in 0u8..16 {
+            let line = failing_line(alloc, &[])?;
+            add_line(&mut lines, Box::new(alloc, line)?)?;
+        }
+        assert!(rt; counts(alloc, number, &mut lines)?, "{}", number);
+    }
+    Ok(())
+}
