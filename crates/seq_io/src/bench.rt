@@ -212,6 +212,15 @@ pub fn bytes_from(first: u8) -> [u8; 32]
     bytes
 }
 
+/// A block whose bytes count up from the first one.
+pub fn block_from(first: u8) -> Block
+    requires { first ≤ 200 }
+{
+    Block {
+        bytes: bytes_from(first),
+    }
+}
+
 /// A line that has accepted so many bytes, or whose first call of `send` fails.
 pub fn line(alloc: Global, accepted: u16, fails: bool) -> Result<MemLine, Fail> {
     let failing = if fails {

@@ -4,7 +4,9 @@ ghost use Rattle.std.specs.Prelude.{◌≡◌, IfOk};
 ghost use Rattle.seq_layout.specs.Copies.{Matches};
 ghost use Rattle.seq_io.specs.Bounds.{IsWired};
 
-use crate::bench::{bytes_from, layout_of, line, may_turn, put_block, put_word, take_away};
+use crate::bench::{
+    block_from, bytes_from, layout_of, line, may_turn, put_block, put_word, take_away,
+};
 use crate::{IoElement, IoNote, PortState, turn};
 use seq_layout::{Extent, Layout};
 use seq_memory::Memories;
@@ -57,23 +59,22 @@ const BEFORE: Before = Before {
 /// What a turn comes to, and the cursor after it.
 type Wanted = (Result<IoNote, (LineNo, LineError)>, u8);
 
+/// The block of a context that says how many bytes of each line are written.
+fn written(before: &Before) -> Block {
+    let mut context = Block::zero();
+    set_block_word(&mut context, 4, before.written[0]);
+    set_block_word(&mut context, 12, before.written[1]);
+    context
+}
+
 /// Sets a copy of the owner's numbers of bytes written and of its two outboxes, and of the journal count of line 1.
 fn set_copy(memories: &mut Memories, layout: &Layout, shadow: bool, before: &Before)
     requires { Matches layout.now memories.old }
     ensures { Matches layout.now memories.new }
 {
-    let mut context = Block::zero();
-    set_block_word(&mut context, 4, before.written[0]);
-    set_block_word(&mut context, 12, before.written[1]);
-    let first = Block {
-        bytes: bytes_from(100),
-    };
-    let second = Block {
-        bytes: bytes_from(150),
-    };
-    put_block(memories, layout, OWNER, 5, shadow, &context);
-    put_block(memories, layout, OWNER, 8, shadow, &first);
-    put_block(memories, layout, OWNER, 16, shadow, &second);
+    put_block(memories, layout, OWNER, 5, shadow, &written(before));
+    put_block(memories, layout, OWNER, 8, shadow, &block_from(100));
+    put_block(memories, layout, OWNER, 16, shadow, &block_from(150));
     put_word(memories, layout, SECOND_LINE, 0, shadow, 40);
 }
 
@@ -372,13 +373,21 @@ fn a_cursor_rests(rt: HostRuntime) -> Result<(), Fail> {
     Ok(())
 }
 
+/// The memories of a layout, with nothing on them.
+fn fresh(alloc: Global, layout: &Layout) -> Result<Memories, Fail>
+    ensures { IfOk result (Matches layout.now) }
+{
+    let memories = layout.memories(alloc)?;
+    Ok(memories)
+}
+
 // A machine with no line.
 fn without_lines(alloc: Global) -> Result<Course, Fail>
     ensures matches { IfOk result (λ c. Matches c.layout c.memories) }
     ensures wired { IfOk result (λ c. IsWired c.layout) }
 {
     let layout = layout_of(alloc, &lone_process(alloc)?)?;
-    let memories = layout.memories(alloc)?;
+    let memories = fresh(alloc, &layout)?;
     Ok(Course {
         io: IoElement {
             up: true,

@@ -2,7 +2,9 @@
 ghost use Rattle.std.specs.Prelude.{◌≡◌, ◌<◌, length, IfOk};
 ghost use Rattle.seq_layout.specs.Copies.{Matches};
 
-use crate::bench::{bytes_from, layout_of, line, may_turn, put_block, put_word, take_away};
+use crate::bench::{
+    block_from, bytes_from, layout_of, line, may_turn, put_block, put_word, take_away,
+};
 use crate::{IoElement, IoNote, PortState, turn};
 use seq_layout::{Extent, Layout};
 use seq_memory::Memories;
@@ -61,24 +63,30 @@ struct Left {
     taken: u32,
 }
 
+/// The block of a context that says how many bytes are written.
+fn written(scene: &Scene) -> Block {
+    let mut context = Block::zero();
+    set_block_word(&mut context, 4, scene.written);
+    context
+}
+
 /// Sets a copy of the process: its status word, how many bytes are written, and in its outbox 100, 101 and so on from place 0,
 /// 150, 151 and so on from place 32.
 fn set_process(memories: &mut Memories, layout: &Layout, shadow: bool, scene: &Scene)
     requires { Matches layout.now memories.old }
     ensures { Matches layout.now memories.new }
 {
-    let mut context = Block::zero();
-    set_block_word(&mut context, 4, scene.written);
-    let first = Block {
-        bytes: bytes_from(100),
-    };
-    let second = Block {
-        bytes: bytes_from(150),
-    };
-    put_block(memories, layout, PROCESS, 5, shadow, &context);
-    put_block(memories, layout, PROCESS, 8, shadow, &first);
-    put_block(memories, layout, PROCESS, 9, shadow, &second);
+    put_block(memories, layout, PROCESS, 5, shadow, &written(scene));
+    put_block(memories, layout, PROCESS, 8, shadow, &block_from(100));
+    put_block(memories, layout, PROCESS, 9, shadow, &block_from(150));
     put_word(memories, layout, PROCESS, 0, shadow, scene.status);
+}
+
+/// The block of a journal with its byte at an index.
+fn journal_block(held: &Held, index: u32) -> Block {
+    let mut journal = Block::zero();
+    set_block_byte(&mut journal, index as usize % 32, held.byte);
+    journal
 }
 
 /// Sets a copy of the line, with its journal's byte at an index.
@@ -86,9 +94,14 @@ fn set_line(memories: &mut Memories, layout: &Layout, shadow: bool, held: &Held,
     requires { Matches layout.now memories.old }
     ensures { Matches layout.now memories.new }
 {
-    let mut journal = Block::zero();
-    set_block_byte(&mut journal, index as usize % 32, held.byte);
-    put_block(memories, layout, LINE, 0, shadow, &journal);
+    put_block(
+        memories,
+        layout,
+        LINE,
+        0,
+        shadow,
+        &journal_block(held, index),
+    );
     put_word(memories, layout, LINE, 0, shadow, held.journaled);
     put_word(memories, layout, LINE, 1, shadow, held.closed);
     put_word(memories, layout, LINE, 2, shadow, held.sent);
@@ -368,25 +381,61 @@ fn journaled(counts: &[u64; 2], bytes: &[u8; 2]) -> [Held; 2] {
     [journal(counts[0], bytes[0]), journal(counts[1], bytes[1])]
 }
 
+fn check_sending(rt: &impl Abort, alloc: Global, number: usize, row: &Sending) -> Result<(), Fail> {
+    let scene = Scene {
+        status: row.0,
+        written: row.1,
+        hung: row.2,
+        away: row.3,
+        accepted: row.4,
+        copies: sent(&row.5),
+        ..SCENE
+    };
+    let wanted = Left {
+        note: Ok(row.6),
+        copies: sent(&row.8),
+        accepted: row.7,
+        taken: 0,
+    };
+    assert_eq!(rt; turned(alloc, &scene)?, Some(wanted), "row {number}");
+    Ok(())
+}
+
 fn sends(rt: &impl Abort, alloc: Global, rows: &[Sending]) -> Result<(), Fail> {
     for (number, row) in rows.iter().enumerate() {
-        let scene = Scene {
-            status: row.0,
-            written: row.1,
-            hung: row.2,
-            away: row.3,
-            accepted: row.4,
-            copies: sent(&row.5),
-            ..SCENE
-        };
-        let wanted = Left {
-            note: Ok(row.6),
-            copies: sent(&row.8),
-            accepted: row.7,
-            taken: 0,
-        };
-        assert_eq!(rt; turned(alloc, &scene)?, Some(wanted), "row {number}");
+        check_sending(rt, alloc, number, row)?;
     }
+    Ok(())
+}
+
+/// The index of the byte that is unread, and whether the port is closed behind it.
+type Unread = (u32, bool);
+
+fn check_taking(
+    rt: &impl Abort,
+    alloc: Global,
+    unread: Unread,
+    number: usize,
+    row: &Taking,
+) -> Result<(), Fail>
+    requires { unread.0 < 32 }
+{
+    let (index, closed) = unread;
+    let scene = Scene {
+        taken: index,
+        arrived: index + 1,
+        closed,
+        away: row.0,
+        copies: journaled(&row.1, &row.2),
+        ..SCENE
+    };
+    let wanted = Left {
+        note: Ok(row.3),
+        copies: journaled(&row.5, &row.6),
+        accepted: 0,
+        taken: row.4,
+    };
+    assert_eq!(rt; turned(alloc, &scene)?, Some(wanted), "row {number}");
     Ok(())
 }
 
@@ -400,42 +449,33 @@ fn takes(
     requires { index < 32 }
 {
     for (number, row) in rows.iter().enumerate() {
-        let scene = Scene {
-            taken: index,
-            arrived: index + 1,
-            closed,
-            away: row.0,
-            copies: journaled(&row.1, &row.2),
-            ..SCENE
-        };
-        let wanted = Left {
-            note: Ok(row.3),
-            copies: journaled(&row.5, &row.6),
-            accepted: 0,
-            taken: row.4,
-        };
-        assert_eq!(rt; turned(alloc, &scene)?, Some(wanted), "row {number}");
+        check_taking(rt, alloc, (index, closed), number, row)?;
     }
+    Ok(())
+}
+
+fn check_closing(rt: &impl Abort, alloc: Global, number: usize, row: &Closing) -> Result<(), Fail> {
+    let scene = Scene {
+        taken: 1,
+        arrived: 1,
+        closed: row.0,
+        away: row.1,
+        copies: closed(&row.2),
+        ..SCENE
+    };
+    let wanted = Left {
+        note: Ok(row.3),
+        copies: closed(&row.4),
+        accepted: 0,
+        taken: 1,
+    };
+    assert_eq!(rt; turned(alloc, &scene)?, Some(wanted), "row {number}");
     Ok(())
 }
 
 fn closes(rt: &impl Abort, alloc: Global, rows: &[Closing]) -> Result<(), Fail> {
     for (number, row) in rows.iter().enumerate() {
-        let scene = Scene {
-            taken: 1,
-            arrived: 1,
-            closed: row.0,
-            away: row.1,
-            copies: closed(&row.2),
-            ..SCENE
-        };
-        let wanted = Left {
-            note: Ok(row.3),
-            copies: closed(&row.4),
-            accepted: 0,
-            taken: 1,
-        };
-        assert_eq!(rt; turned(alloc, &scene)?, Some(wanted), "row {number}");
+        check_closing(rt, alloc, number, row)?;
     }
     Ok(())
 }
@@ -447,11 +487,10 @@ fn bytes_are_sent_and_the_sent_words_follow(rt: HostRuntime) -> Result<(), Fail>
 
 #[test]
 fn bytes_are_taken_before_a_line_is_closed(rt: HostRuntime) -> Result<(), Fail> {
-    for closed in [false, true] {
-        takes(&rt, rt.alloc(), 0, closed, &TAKING)?;
-        takes(&rt, rt.alloc(), 31, closed, &LAST)?;
-    }
-    Ok(())
+    takes(&rt, rt.alloc(), 0, false, &TAKING)?;
+    takes(&rt, rt.alloc(), 31, false, &LAST)?;
+    takes(&rt, rt.alloc(), 0, true, &TAKING)?;
+    takes(&rt, rt.alloc(), 31, true, &LAST)
 }
 
 #[test]
@@ -479,28 +518,35 @@ fn sent_words_come_before_unread_bytes(rt: HostRuntime) -> Result<(), Fail> {
     Ok(())
 }
 
+// A turn at a line that fails leaves all as it was.
+fn check_fault(
+    rt: &impl Abort,
+    alloc: Global,
+    up: bool,
+    note: Result<IoNote, (LineNo, LineError)>,
+) -> Result<(), Fail> {
+    let scene = Scene {
+        up,
+        written: 1,
+        fails: true,
+        arrived: 1,
+        closed: true,
+        ..SCENE
+    };
+    let wanted = Left {
+        note,
+        copies: [QUIET, QUIET],
+        accepted: 0,
+        taken: 0,
+    };
+    assert_eq!(rt; turned(alloc, &scene)?, Some(wanted));
+    Ok(())
+}
+
 // Neither a line that fails nor an element that is down changes anything.
 #[test]
 fn a_fault_leaves_all_as_it_was(rt: HostRuntime) -> Result<(), Fail> {
-    for (up, note) in [
-        (true, Err((LineNo(0), LineError::Fault))),
-        (false, Ok(NOTHING)),
-    ] {
-        let scene = Scene {
-            up,
-            written: 1,
-            fails: true,
-            arrived: 1,
-            closed: true,
-            ..SCENE
-        };
-        let wanted = Left {
-            note,
-            copies: [QUIET, QUIET],
-            accepted: 0,
-            taken: 0,
-        };
-        assert_eq!(rt; turned(rt.alloc(), &scene)?, Some(wanted));
-    }
-    Ok(())
+    let fault = Err((LineNo(0), LineError::Fault));
+    check_fault(&rt, rt.alloc(), true, fault)?;
+    check_fault(&rt, rt.alloc(), false, Ok(NOTHING))
 }

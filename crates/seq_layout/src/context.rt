@@ -234,6 +234,7 @@ pub fn context_read_back(c: &Context) -> Option<Context>
 #[cfg(test)]
 mod tests {
     use super::*;
+    use std::process::Abort;
 
     // Every byte that may be set is set: the process has trapped with cause 0x0b at pc 0x2468_ace0.
     const TRAPPED: [[u8; 32]; 8] = [
@@ -317,38 +318,53 @@ mod tests {
         assert_eq!(rt; (c.reads, c.writes), (expected.reads, expected.writes));
     }
 
+    /// A block of a context, the place of a byte in it, and another byte there.
+    type Change = (usize, usize, u8);
+
+    // Each makes the context of a process that has trapped one of none.
+    const CHANGES: [Change; 16] = [
+        (0, 0, 1),
+        (0, 3, 0x80),
+        (4, 0, 5),
+        (4, 0, 6),
+        (4, 4, 3),
+        (4, 5, 1),
+        (4, 7, 1),
+        (4, 4, 1),
+        (4, 18, 1),
+        (4, 19, 0x80),
+        (4, 20, 1),
+        (4, 23, 1),
+        (6, 0, 1),
+        (6, 31, 1),
+        (7, 0, 1),
+        (7, 31, 1),
+    ];
+
+    fn check_refused(rt: &impl Abort, base: &[[u8; 32]; 8], change: &Change) {
+        let (block, byte, value) = *change;
+        assert!(rt; block < 8 && byte < 32);
+        let mut bytes = *base;
+        bytes[block][byte] = value;
+        assert!(rt;
+            blocks_to_context(&in_blocks(bytes)).is_none(),
+            "block {block}, byte {byte}"
+        );
+    }
+
+    fn check_all_refused(rt: &impl Abort, base: &[[u8; 32]; 8], changes: &[Change]) {
+        for change in changes {
+            check_refused(rt, base, change);
+        }
+    }
+
     #[test]
     fn bytes_outside_the_format_are_refused(rt: HostRuntime) {
         let mut exited = TRAPPED;
         exited[4][4] = 1;
         exited[4][12..16].fill(0);
         assert!(rt; blocks_to_context(&in_blocks(exited)).is_some());
-        for (base, block, byte, value) in [
-            (TRAPPED, 0, 0, 1),
-            (TRAPPED, 0, 3, 0x80),
-            (TRAPPED, 4, 0, 5),
-            (TRAPPED, 4, 0, 6),
-            (TRAPPED, 4, 4, 3),
-            (TRAPPED, 4, 5, 1),
-            (TRAPPED, 4, 7, 1),
-            (exited, 4, 4, 0),
-            (TRAPPED, 4, 4, 1),
-            (TRAPPED, 4, 18, 1),
-            (TRAPPED, 4, 19, 0x80),
-            (TRAPPED, 4, 20, 1),
-            (TRAPPED, 4, 23, 1),
-            (TRAPPED, 6, 0, 1),
-            (TRAPPED, 6, 31, 1),
-            (TRAPPED, 7, 0, 1),
-            (TRAPPED, 7, 31, 1),
-        ] {
-            assert!(rt; block < 8 && byte < 32);
-            let mut bytes = base;
-            bytes[block][byte] = value;
-            assert!(rt;
-                blocks_to_context(&in_blocks(bytes)).is_none(),
-                "block {block}, byte {byte}"
-            );
-        }
+        check_all_refused(&rt, &TRAPPED, &CHANGES);
+        check_refused(&rt, &exited, &(4, 4, 0));
     }
 }

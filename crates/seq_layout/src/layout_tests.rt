@@ -149,23 +149,33 @@ fn check_numbered(rt: &impl Abort, layout: &Layout, number: u8) {
     assert_eq!(rt; layout.owner(LineNo(number)), (Pid(1), number));
 }
 
-// A memory, and how many blocks and words it keeps.
-fn check_memory(rt: &impl Abort, layout: &Layout, (memory, blocks, words): (u8, u32, u32)) {
-    assert!(rt; memory < layout.memory_count());
-    assert_eq!(rt; layout.block_count(Me(memory)), blocks);
-    assert_eq!(rt; layout.word_count(Me(memory)), words);
+/// A memory, and how many blocks and words it keeps.
+type Memory = (u8, u32, u32);
+
+fn check_memory(rt: &impl Abort, layout: &Layout, (memory, blocks, words): &Memory) {
+    assert!(rt; *memory < layout.memory_count());
+    assert_eq!(rt; layout.block_count(Me(*memory)), *blocks);
+    assert_eq!(rt; layout.word_count(Me(*memory)), *words);
+}
+
+fn check_memories(rt: &impl Abort, layout: &Layout, rows: &[Memory]) {
+    for row in rows {
+        check_memory(rt, layout, row);
+    }
+}
+
+fn check_counts(rt: &impl Abort, layout: &Layout) {
+    assert!(rt; layout.processes() == 2 && layout.segments() == 2 && layout.lines() == 2);
 }
 
 #[test]
 fn processes_segments_and_lines(rt: HostRuntime) -> Result<(), NoMemory> {
     let alloc = rt.alloc();
     let layout = Layout::new(alloc, &three_memories(alloc)?)?;
-    assert!(rt; layout.processes() == 2 && layout.segments() == 2 && layout.lines() == 2);
+    check_counts(&rt, &layout);
     check_numbered(&rt, &layout, 0);
     check_numbered(&rt, &layout, 1);
-    check_memory(&rt, &layout, (0, 16, 6));
-    check_memory(&rt, &layout, (1, 40, 6));
-    check_memory(&rt, &layout, (2, 32, 8));
+    check_memories(&rt, &layout, &[(0, 16, 6), (1, 40, 6), (2, 32, 8)]);
     Ok(())
 }
 

@@ -1,30 +1,45 @@
 use super::*;
-use seq_words::{Bytes, ReadError};
+use seq_words::{Bytes, Items, MachineDesc, ReadError};
 use std::alloc::Global;
+use std::process::Abort;
 use std::test::Fail;
 
 const MACHINE_A: &[u8] =
     b"sequoia 1\nprocessors 2\nmemories 2\nios 2\ncache 16\nquantum 1000\njournal 32\nprocess hello.sqi lines 0 segments -\n";
 
-#[test]
-fn machine_a_is_read(rt: HostRuntime) -> Result<(), Fail> {
-    let draft = read(rt.alloc(), MACHINE_A).ok().ok_or("refused")?;
-    assert_eq!(rt; draft.desc.processors, 2);
-    assert_eq!(rt; draft.desc.memories, 2);
-    assert_eq!(rt; draft.desc.ios, 2);
-    assert_eq!(rt; draft.desc.cache, 16);
-    assert_eq!(rt; draft.desc.quantum, 1000);
-    assert_eq!(rt; draft.desc.journal, 32);
-    assert_eq!(rt; draft.desc.segments.len(), 0);
-    assert_eq!(rt; draft.firsts.len(), 0);
-    assert_eq!(rt; draft.desc.processes.len(), 1);
-    let process = draft.desc.processes.at(0);
+fn check_elements(rt: &impl Abort, desc: &MachineDesc) {
+    assert_eq!(rt; desc.processors, 2);
+    assert_eq!(rt; desc.memories, 2);
+    assert_eq!(rt; desc.ios, 2);
+    assert_eq!(rt; desc.cache, 16);
+    assert_eq!(rt; desc.quantum, 1000);
+    assert_eq!(rt; desc.journal, 32);
+}
+
+fn check_lone_process(rt: &impl Abort, desc: &MachineDesc) {
+    assert_eq!(rt; desc.processes.len(), 1);
+    let process = desc.processes.at(0);
     assert_eq!(rt;
         (process.size, process.entry, process.lines, process.grants),
         (0, 0, 1, 0)
     );
-    assert_eq!(rt; draft.images.len(), 1);
-    assert_eq!(rt; draft.images.at(0).as_slice(), b"hello.sqi".as_slice());
+}
+
+// So many files are named, and one of them by this name.
+fn check_name(rt: &impl Abort, names: &Items<Bytes>, count: usize, at: usize, name: &[u8]) {
+    assert_eq!(rt; names.len(), count);
+    assert!(rt; at < names.len());
+    assert_eq!(rt; names.at(at).as_slice(), name);
+}
+
+#[test]
+fn machine_a_is_read(rt: HostRuntime) -> Result<(), Fail> {
+    let draft = read(rt.alloc(), MACHINE_A).ok().ok_or("refused")?;
+    check_elements(&rt, &draft.desc);
+    assert_eq!(rt; draft.desc.segments.len(), 0);
+    assert_eq!(rt; draft.firsts.len(), 0);
+    check_lone_process(&rt, &draft.desc);
+    check_name(&rt, &draft.images, 1, 0, b"hello.sqi");
     Ok(())
 }
 
@@ -32,20 +47,26 @@ fn machine_a_is_read(rt: HostRuntime) -> Result<(), Fail> {
 const LARGE: &[u8] =
     b"# a machine\n\n sequoia\t1 \r\nprocessors 8\nmemories 8\nios 4\r\n\t \ncache 256\nquantum 10000\njournal 65536\n#\nsegment 16384\nsegment 32 first.bin\r\nprocess a lines 2,15 segments 0,1\nprocess \xc3\xa9\0 lines 0,1,3,4 segments -\n  # more\nprocess c lines 5,6,7,8 segments 1\nprocess d lines 9,10,11,12 segments -\nprocess e lines 13,14 segments 0";
 
+fn check_segments(rt: &impl Abort, desc: &MachineDesc) {
+    assert_eq!(rt; desc.segments.len(), 2);
+    assert_eq!(rt; desc.segments.at(1).size, 32);
+}
+
+fn check_processes(rt: &impl Abort, desc: &MachineDesc) {
+    assert_eq!(rt; desc.processes.len(), 5);
+    assert_eq!(rt; desc.processes.at(0).lines, 0b1000_0000_0000_0100);
+    assert_eq!(rt; desc.processes.at(0).grants, 0b11);
+}
+
 #[test]
 fn a_large_machine_is_read(rt: HostRuntime) -> Result<(), Fail> {
     let draft = read(rt.alloc(), LARGE).ok().ok_or("refused")?;
     assert_eq!(rt; draft.desc.journal, 65536);
-    assert_eq!(rt; draft.desc.segments.len(), 2);
-    assert_eq!(rt; draft.desc.segments.at(1).size, 32);
-    assert_eq!(rt; draft.firsts.len(), 2);
-    assert_eq!(rt; draft.firsts.at(0).as_slice(), b"".as_slice());
-    assert_eq!(rt; draft.firsts.at(1).as_slice(), b"first.bin".as_slice());
-    assert_eq!(rt; draft.desc.processes.len(), 5);
-    assert_eq!(rt; draft.desc.processes.at(0).lines, 0b1000_0000_0000_0100);
-    assert_eq!(rt; draft.desc.processes.at(0).grants, 0b11);
-    assert_eq!(rt; draft.images.len(), 5);
-    assert_eq!(rt; draft.images.at(1).as_slice(), b"\xc3\xa9\0".as_slice());
+    check_segments(&rt, &draft.desc);
+    check_name(&rt, &draft.firsts, 2, 0, b"");
+    check_name(&rt, &draft.firsts, 2, 1, b"first.bin");
+    check_processes(&rt, &draft.desc);
+    check_name(&rt, &draft.images, 5, 1, b"\xc3\xa9\0");
     Ok(())
 }
 
