@@ -1,0 +1,4 @@
+pub mod Tables
+pub mod Fitting
+pub mod Numerals
+pub mod Plainness
