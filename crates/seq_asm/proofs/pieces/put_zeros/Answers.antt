@@ -1,0 +1,8 @@
+use Rattle.std.proofs.Common.{◌++◌, [], ◌∷◌, ap, ◌∙◌, append_assoc}
+use Rattle.std.specs.Prelude.{replicate}
+use Rattle.std.proofs.lemmas.List.{replicate-append-replicate}
+use Rattle.seq_asm.proofs.pieces.put_zeros.Goals as goal
+
+pub loop-preserved : goal.loop-preserved
+loop-preserved c =
+    c.in_ok-push.ensures.ok ∙ ap (λ xs. xs ++ (0 ∷ [])) c.loop.invariant ∙ append_assoc c.args.out.now (replicate c.loop.counter 0) (0 ∷ []) ∙ ap (λ xs. c.args.out.now ++ xs) (replicate-append-replicate c.loop.counter 1 0)

@@ -1,0 +1,7 @@
+pub mod First
+pub mod Listed
+pub mod Kept
+pub mod Arities
+pub mod Ranges
+pub mod Fits
+pub mod Same

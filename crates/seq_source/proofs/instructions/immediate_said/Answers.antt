@@ -1,0 +1,5 @@
+use Rattle.seq_source.proofs.Fits.{immediate_again, immediate_fits}
+use Rattle.seq_source.proofs.instructions.immediate_said.Goals as goal
+
+pub returns-in-Some-immediate_of-clause-word : goal.returns-in-Some-immediate_of-clause-word
+returns-in-Some-immediate_of-clause-word c = immediate_fits c.args.name _ _ _ c.in-Some-register_of.ensures.small c.in-Some-register_of-2.ensures.small (immediate_again _ c.in-Some-immediate_of.ensures.fits)

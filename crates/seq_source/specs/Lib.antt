@@ -1,0 +1,7 @@
+pub mod Names
+pub mod Cuts
+pub mod Operands
+pub mod Numbers
+pub mod Directives
+pub mod Instructions
+pub mod Said
