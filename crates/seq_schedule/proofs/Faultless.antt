@@ -24,7 +24,7 @@ use Rattle.seq_schedule.specs.declared.lines.Said.TheVariants.{Passed, Unbuilt, 
 use Rattle.seq_schedule.specs.Limits.{most_lines, most_times}
 use Rattle.seq_schedule.specs.Numbers.{number_within, line_named, bytes_of}
 use Rattle.seq_schedule.specs.Forms.{form_named, is_built}
-use Rattle.seq_schedule.specs.Said.{with_one, with_two, said_by, turn_of, turn_said, turns_of, turns_said, round_said, finish_said, input_of, input_said, close_said, form_said, taken_said, said}
+use Rattle.seq_schedule.specs.Said.{with_one, with_two, said_by, turn_of, turn_said, turns_of, turns_said, round_said, finish_said, input_of, input_said, close_said, fail_of, fail_said, repair_of, repair_said, form_said, taken_said, said}
 use Rattle.seq_schedule.specs.Rules.{Past, past, rule_of, place_rule, line_rule, with_said, fault_from, item_at, items_from}
 use Rattle.seq_schedule.specs.Faultless.{IsBuiltScript, FollowRules}
 use Rattle.seq_schedule.proofs.Ranges.{cond-none, first-none}
@@ -84,6 +84,18 @@ turns_built (Some (elements.Processor p)) n = by_built (λ n. scripts.Turns (ele
 turns_built (Some (elements.Memory m)) n = tt
 turns_built (Some (elements.Io i)) n = by_built (λ n. scripts.Turns (elements.Io i) n) n (λ n. tt)
 
+fail_built : (e : Option Element) → SaysBuilt (fail_of Built e)
+fail_built None = tt
+fail_built (Some (elements.Processor p)) = tt
+fail_built (Some (elements.Memory m)) = tt
+fail_built (Some (elements.Io i)) = tt
+
+repair_built : (e : Option Element) → SaysBuilt (repair_of Built e)
+repair_built None = tt
+repair_built (Some (elements.Processor p)) = tt
+repair_built (Some (elements.Memory m)) = tt
+repair_built (Some (elements.Io i)) = tt
+
 input_built : (l : Option LineNo) (bytes : Option (List ℕ)) → SaysBuilt (input_of l bytes)
 input_built None bytes = tt
 input_built (Some l) None = tt
@@ -113,7 +125,15 @@ close_said_built : (a : List ℕ) → SaysBuilt (close_said a)
 unfolding close_said
 close_said_built a = by_built (λ l. scripts.One (events.Close l)) (line_named a) (λ l. tt)
 
-form_built : (form : Form) (words : List (List ℕ)) → SaysBuilt (cond (is_built form) (form_said form words) Unbuilt)
+fail_said_built : (a : List ℕ) → SaysBuilt (fail_said Built a)
+unfolding fail_said
+fail_said_built a = fail_built (element_named a)
+
+repair_said_built : (a : List ℕ) → SaysBuilt (repair_said Built a)
+unfolding repair_said
+repair_said_built a = repair_built (element_named a)
+
+form_built : (form : Form) (words : List (List ℕ)) → SaysBuilt (cond (is_built form) (form_said Built form words) Unbuilt)
 unfolding form_said
 form_built forms.Turn words = one_built turn_said words turn_said_built
 form_built forms.Turns words = two_built turns_said words turns_said_built
@@ -121,8 +141,8 @@ form_built forms.Round words = one_built round_said words round_said_built
 form_built forms.Finish words = one_built finish_said words finish_said_built
 form_built forms.Input words = two_built input_said words input_said_built
 form_built forms.Close words = one_built close_said words close_said_built
-form_built forms.Fail words = tt
-form_built forms.Repair words = tt
+form_built forms.Fail words = one_built (fail_said Built) words fail_said_built
+form_built forms.Repair words = one_built (repair_said Built) words repair_said_built
 form_built forms.Upset words = tt
 form_built forms.Hangup words = tt
 

@@ -9,3 +9,8 @@ pub mod There
 pub mod Turns
 pub mod Gates
 pub mod Faultless
+pub mod Below
+pub mod Entries
+pub mod BlockSums
+pub mod OutSteps
+pub mod OutStates

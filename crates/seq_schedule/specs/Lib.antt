@@ -7,3 +7,9 @@ pub mod Tallying
 pub mod Scripted
 pub mod Faultless
 pub mod Laws
+pub mod Below
+pub mod Outs
+pub mod Keeping
+pub mod Known
+pub mod Tables
+pub mod Steps

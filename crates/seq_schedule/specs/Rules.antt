@@ -221,7 +221,7 @@ fault_from gate d place before (line ∷ lines) =
     let here = said gate (words_of line) in
     fault_or place (line_rule d (past d before) place here) (fault_from gate d (place + 1) (with_said before here) lines)
 
--- the first violated rule of a text, with its place, where only the forms that the gate lets through are taken
+-- the first violated rule of a text, with its place, where only what the gate lets through is taken
 abbrev pub first_fault : Gate → MachineDesc → List ℕ → Option (ℕ × ℕ)
 first_fault gate d text = fault_from gate d 1 [] (lines_of text)
 

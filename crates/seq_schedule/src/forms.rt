@@ -1,6 +1,8 @@
 // The forms of lines, by their first words.
 ghost use Rattle.std.specs.Prelude.{◌≡◌};
-ghost use Rattle.seq_schedule.specs.Forms.{form_named, failure_named, is_built, is_taken};
+ghost use Rattle.seq_schedule.specs.Forms.{form_named, failure_named, is_built, is_taken, may_fail};
+
+use seq_words::Element;
 
 /// A form of line.
 #[derive(Clone, Copy)]
@@ -17,7 +19,7 @@ pub enum Form {
     Hangup,
 }
 
-/// Which forms are taken: those that the machine runs yet, or all.
+/// Which lines are taken: those that the machine runs yet, or all.
 #[derive(Clone, Copy)]
 pub enum Gate {
     Built,
@@ -61,7 +63,7 @@ fn failure_named(word: &[u8]) -> Option<Form>
     }
 }
 
-/// Whether the machine runs what lines of this form say.
+/// Whether the machine runs what lines of this form say, of some element at least.
 fn is_built(form: Form) -> bool
     ensures { result ≡ is_built form }
 {
@@ -72,8 +74,8 @@ fn is_built(form: Form) -> bool
         Form::Finish => true,
         Form::Input => true,
         Form::Close => true,
-        Form::Fail => false,
-        Form::Repair => false,
+        Form::Fail => true,
+        Form::Repair => true,
         Form::Upset => false,
         Form::Hangup => false,
     }
@@ -86,5 +88,17 @@ pub fn is_taken(gate: Gate, form: Form) -> bool
     match gate {
         Gate::Built => is_built(form),
         Gate::Open => true,
+    }
+}
+
+/// Whether failures and repairs of this element are taken: behind the gate those of processors alone.
+pub fn may_fail(gate: Gate, element: Element) -> bool
+    ensures { result ≡ may_fail gate element }
+{
+    match (gate, element) {
+        (Gate::Built, Element::Processor(_)) => true,
+        (Gate::Built, Element::Memory(_)) => false,
+        (Gate::Built, Element::Io(_)) => false,
+        (Gate::Open, _) => true,
     }
 }

@@ -134,9 +134,9 @@ fn read_lines(
     Ok(reader.items)
 }
 
-/// Reads a schedule, where only the forms that the gate lets through are taken. A place is a line from 1.
+/// Reads a schedule, where only what the gate lets through is taken. A place is a line from 1.
 ///
-/// Rule 0: a line's form isn't let through. 30: a line is none of the forms. 31: a number, the hexadecimal digits or a
+/// Rule 0: a line isn't let through. 30: a line is none of the forms. 31: a number, the hexadecimal digits or a
 /// mask are malformed, or a number of times isn't 1 to 10,000,000, or a register isn't 1 to 32. 32: an element or line
 /// isn't in the description. 33: an element fails that is failed, or is repaired and isn't failed. 34: a failed
 /// processor is struck. 35: a half is struck while the other one was since the processor's last repair. 36: an input or
@@ -160,8 +160,8 @@ pub fn read(
     read_lines(alloc, gate, text, desc)
 }
 
-/// Reads a schedule of the forms that the machine runs. Places and rules are those of `read`; rule 0 is that the machine
-/// doesn't run lines of this form yet.
+/// Reads a schedule of what the machine runs. Places and rules are those of `read`; rule 0 is that the machine doesn't run
+/// such a line yet: it begins with `upset` or `hangup`, or a memory or an I/O element fails in it or is repaired.
 pub fn parse(alloc: Global, text: &[u8], desc: &MachineDesc) -> Result<Items<Item>, ReadError>
     requires { IsDescription desc.now }
     ensures items { IfOk result (λ items. items ≡ items_of Built text.now) }

@@ -336,25 +336,68 @@ const TAKEN: [(&[u8], usize); 32] = [
     ),
 ];
 
-// Places and rules while failures, strikes and hangups aren't built.
-const GATED: [(&[u8], u64, u16); 14] = [
-    (b"fail p0\n", 1, 0),
-    (b"repair p0\n", 1, 0),
+// Places and rules while only processors fail.
+const GATED: [(&[u8], u64, u16); 38] = [
+    (b"fail m0\n", 1, 0),
+    (b"fail m7\n", 1, 0),
+    (b"repair m0\n", 1, 0),
+    (b"fail i0\n", 1, 0),
+    (b"fail i3\n", 1, 0),
+    (b"repair i0\n", 1, 0),
     (b"upset\n", 1, 0),
+    (b"upset p0 a 1 0x1\n", 1, 0),
     (b"hangup x y z\n", 1, 0),
-    (b"turn p0\nfail\n", 2, 0),
-    (b"fail p0 bad\n", 1, 0),
+    (b"hangup 0\n", 1, 0),
     (b"# fail\n\nfail m0\n", 3, 0),
-    (b"bad\nfail p0\n", 1, 30),
-    (b"turn p2\nfail p0\n", 1, 32),
+    (b"fail p0\nfail m0\n", 2, 0),
+    (b"fail p0\nrepair i0\n", 2, 0),
+    (b"fail p0\nupset p0 a 1 0x1\n", 2, 0),
+    (b"fail\n", 1, 30),
+    (b"repair\n", 1, 30),
+    (b"turn p0\nfail\n", 2, 30),
+    (b"fail p0 bad\n", 1, 30),
+    (b"fail m0 bad\n", 1, 30),
+    (b"repair i0 0\n", 1, 30),
+    (b"fail p8\n", 1, 30),
+    (b"fail m8\n", 1, 30),
+    (b"repair i4\n", 1, 30),
     (b"failing p0\n", 1, 30),
-    (b"round 0\nhangup 0\n", 1, 31),
-    (b"close 0\nclose 0\nfail p0\n", 2, 36),
+    (b"bad\nfail p0\n", 1, 30),
     (b"turn p0 fail\n", 1, 30),
+    (b"round 0\nhangup 0\n", 1, 31),
+    (b"turn p2\nfail m0\n", 1, 32),
+    (b"fail p2\n", 1, 32),
+    (b"repair p7\n", 1, 32),
+    (b"fail p0\nfail p0\n", 2, 33),
+    (b"fail p0\nturn p0\nfail p1\n# p0\nfail p0\n", 5, 33),
+    (b"repair p0\n", 1, 33),
+    (b"fail p0\nrepair p1\n", 2, 33),
+    (b"fail p0\nrepair p0\nrepair p0\n", 3, 33),
+    (b"close 0\nclose 0\nfail p0\n", 2, 36),
     (
         b"round 10000000\nround 10000000\nround 10000000\nround 10000000\nround 10000000\nround 10000000\nround 10000000\nfail p0\n",
         7,
         39,
+    ),
+    (
+        b"round 10000000\nround 10000000\nround 10000000\nround 10000000\nround 10000000\nround 10000000\nturns p0 10000000\nturns p0 10000000\nfail p0\nturn p0\n",
+        10,
+        39,
+    ),
+];
+
+// Schedules in which processors fail that violate no rule, with the number of their items.
+const FAILING: [(&[u8], usize); 8] = [
+    (b"fail p0", 1),
+    (b" fail\tp1 \r\n", 1),
+    (b"fail p0\nrepair p0\n", 2),
+    (b"fail p0\nrepair p0\nfail p0\nrepair p0\n", 4),
+    (b"fail p0\nfail p1\nrepair p0\nrepair p1\n", 4),
+    (b"fail p0\nturn p0\nturns p0 3\nround 2\nfinish 1\n", 5),
+    (b"fail p0\ninput 0 41\nclose 0\nrepair p0\n", 4),
+    (
+        b"round 10000000\nround 10000000\nround 10000000\nround 10000000\nround 10000000\nround 10000000\nturns p0 10000000\nturns p0 10000000\nfail p0\nrepair p0\n",
+        10,
     ),
 ];
 
@@ -416,21 +459,26 @@ fn schedules_are_refused_at_their_first_fault(rt: HostRuntime) -> Result<(), Fai
     Ok(())
 }
 
-fn count(alloc: Global, desc: &MachineDesc, text: &[u8]) -> Option<usize>
+fn count(alloc: Global, gate: Gate, desc: &MachineDesc, text: &[u8]) -> Option<usize>
     requires { IsDescription desc.now }
 {
-    match read(alloc, Gate::Open, text, desc) {
+    match read(alloc, gate, text, desc) {
         Ok(items) => Some(items.len()),
         Err(_) => None,
     }
 }
 
 // The first schedule that has another number of items.
-fn first_miscounted(alloc: Global, desc: &MachineDesc, rows: &[(&[u8], usize)]) -> Option<usize>
+fn first_miscounted(
+    alloc: Global,
+    gate: Gate,
+    desc: &MachineDesc,
+    rows: &[(&[u8], usize)],
+) -> Option<usize>
     requires { IsDescription desc.now }
 {
     for (at, row) in rows.iter().enumerate() {
-        if count(alloc, desc, row.0) != Some(row.1) {
+        if count(alloc, gate, desc, row.0) != Some(row.1) {
             return Some(at);
         }
     }
@@ -441,7 +489,8 @@ fn first_miscounted(alloc: Global, desc: &MachineDesc, rows: &[(&[u8], usize)]) 
 fn schedules_are_taken(rt: HostRuntime) -> Result<(), Fail> {
     let alloc = rt.alloc();
     let desc = machine(alloc)?;
-    assert_eq!(rt; first_miscounted(alloc, &desc, &TAKEN), None);
+    assert_eq!(rt; first_miscounted(alloc, Gate::Open, &desc, &TAKEN), None);
+    assert_eq!(rt; first_miscounted(alloc, Gate::Built, &desc, &FAILING), None);
     Ok(())
 }
 
@@ -510,12 +559,14 @@ fn every_form_is_read(rt: HostRuntime) -> Result<(), Fail> {
         (13, Wanted::One(Event::Hangup(LineNo(0)))),
     ];
     assert_eq!(rt; first_other(items.as_slice(), &wanted), None);
-    let built = parse(alloc, b"turn p1\n\nfinish 3", &desc)
+    let built = parse(alloc, b"turn p1\n\nfail p0\nrepair p0\nfinish 3", &desc)
         .ok()
         .ok_or("refused")?;
     let wanted = [
         (1, Wanted::One(Event::Processor(Pe(1)))),
-        (3, Wanted::Finish(3)),
+        (3, Wanted::One(Event::Fail(Element::Processor(Pe(0))))),
+        (4, Wanted::One(Event::Repair(Element::Processor(Pe(0))))),
+        (5, Wanted::Finish(3)),
     ];
     assert_eq!(rt; first_other(built.as_slice(), &wanted), None);
     Ok(())
@@ -536,7 +587,10 @@ fn a_million_lines(rt: HostRuntime) -> Result<(), Fail> {
     let alloc = rt.alloc();
     let desc = machine(alloc)?;
     let full = repeated(alloc, b"turns p0 1\n", 999_999, b"turn i0")?;
-    assert_eq!(rt; count(alloc, &desc, full.as_slice()), Some(1_000_000));
+    assert_eq!(rt;
+        count(alloc, Gate::Open, &desc, full.as_slice()),
+        Some(1_000_000)
+    );
     for (line, last, wanted) in [
         (b"\n".as_slice(), b"".as_slice(), None),
         (b"\n".as_slice(), b"\n".as_slice(), refused(1_000_001, 39)),
