@@ -1,0 +1,4 @@
+pub mod Gated
+pub mod Equal
+pub mod Copied
+pub mod Elsewhere
