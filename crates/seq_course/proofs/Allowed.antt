@@ -13,8 +13,8 @@ use Rattle.seq_course.proofs.Passing.{passes_one_more, follow_head, next_leads, 
 use Rattle.seq_course.proofs.Rooms.{script_few, few_in_all}
 
 -- its events may be made, one after the other
-pub next_may_make : (d : MachineDesc) (front back : List Item) (i : Item) (es : List Event) (k : ℕ) → IsDescription d → AreFaultless d (front ++ i ∷ back) → Passes d [] front es → HasMade d es i.script k → MayMake d (made_by d i.script k) (machine_after d es)
-next_may_make d front back i es k described faultless passes made = (next_leads d described es i back (follows d described front (i ∷ back) es faultless passes) k).may
+pub next_may_make : (d : MachineDesc) (front back : List Item) (i : Item) (es : List Event) (k : ℕ) → IsDescription d → AreFaultless d (front ++ i ∷ back) → Passes d [] front es → MayMake d (made_by d i.script k) (machine_after d es)
+next_may_make d front back i es k described faultless passes = (next_leads d described es i back (follows d described front (i ∷ back) es faultless passes) k).may
 
 -- they are no more than the most
 pub next_is_few : (d : MachineDesc) (front back : List Item) (i : Item) (es : List Event) (k : ℕ) → IsDescription d → AreFaultless d (front ++ i ∷ back) → Passes d [] front es → HasMade d es i.script k → length (made_by d i.script k) ≤ most_of d i.script

@@ -14,21 +14,22 @@ use Rattle.seq_kernel.specs.declared.outcomes.Note.{Note}
 use Rattle.seq_turns.specs.Machines.{Machine}
 use Rattle.seq_turns.specs.Allowed.{Allowed}
 use Rattle.seq_turns.specs.Events.{happens, note}
-use Rattle.seq_fits.specs.Fit.{Fit}
-use Rattle.seq_fits.specs.Numbers.{NumbersFit}
-use Rattle.seq_fits.specs.Unfailed.{IsUnfailed, IsBuilt}
+use Rattle.seq_stands.specs.Fit.{Fit, ClearsInOrder}
+use Rattle.seq_stands.specs.FitNumbers.{NumbersFit}
 use Rattle.seq_machine.specs.declared.hardware.Hardware.{Hardware}
 use Rattle.seq_machine.specs.declared.hardware.Stop.{Stop}
 use Rattle.seq_machine.specs.declared.hardware.Stop.TheVariants as stop
 use Rattle.seq_machine.specs.Plain.{Outside, machine_of, outside_of, IsOutside, IsHardware}
 use Rattle.seq_machine.specs.Starting.{no_outside, machine_at_start}
+use Rattle.seq_machine.specs.Built.{IsBuilt, MemoriesServe}
+use Rattle.seq_machine.specs.Settling.{held_copies}
 use Rattle.seq_machine.specs.Making.{IsReadyFor}
 use Rattle.seq_machine.specs.Processors.{MayTurn}
 use Rattle.seq_machine.specs.Serving.{StopsAt}
 use Rattle.seq_machine.specs.Happening.{sent_in, entries_in, StopsFor, CountsStay, ChronicleStops}
 use Rattle.seq_machine.proofs.Readiness.{numbers_fit, goes_on}
 use Rattle.seq_machine.proofs.Turnable.{may_turn}
-use Rattle.seq_machine.proofs.Unchanged.{allowed_anywhere}
+use Rattle.seq_machine.proofs.Unchanged.{allowed_anywhere, clears_anywhere}
 use Rattle.seq_course.specs.Course.{machine_after}
 use Rattle.seq_course.specs.Making.{Scene, scene, LedTo, MayCome, Makes, HaltsAt, Breaks}
 use Rattle.seq_course.proofs.Runs.{run-append}
@@ -49,11 +50,17 @@ module _ (e : Event) (a : Scene) (may : MayCome (e ∷ []) a) where
       let here : Allowed may.desc (machine_of a.hardware _) e = subst (λ (m : Machine). Allowed may.desc m e) (sym led.machine) may.allowed.1 in
       subst (λ (d : MachineDesc). Allowed d (machine_of a.hardware no_outside) e) (sym led.described) (allowed_anywhere may.desc a.hardware _ no_outside e built_next here)
 
+  pub clears_next : ClearsInOrder a.hardware.desc (machine_of a.hardware no_outside)
+  clears_next =
+      let led = may.led.machine in
+      let here : ClearsInOrder may.desc (machine_of a.hardware _) = subst (λ (m : Machine). ClearsInOrder may.desc m) (sym led.machine) may.allowed.2 in
+      subst (λ (d : MachineDesc). ClearsInOrder d (machine_of a.hardware no_outside)) (sym led.described) (clears_anywhere may.desc a.hardware _ no_outside here)
+
   pub numbers_next : NumbersFit a.hardware.desc (machine_of a.hardware no_outside)
   numbers_next = (let room = may.ready.room in numbers_fit may.ready.number a.hardware (omega arith) may.ready.ready)
 
   turns_next : (p : ℕ) → p < a.hardware.desc.processors → MayTurn a.hardware p
-  turns_next p there = may_turn a.hardware p may.ready.ready.hardware may.ready.ready.fit numbers_next may.ready.ready.unfailed there
+  turns_next p there = may_turn a.hardware p may.ready.ready.hardware may.ready.ready.fit numbers_next may.ready.ready.serving there
 
   pub told_next : (o : Outside) → IsTold a.hardware.desc (machine_of a.hardware o) e
   told_next o = is_told a.hardware turns_next o e built_next allowed_next
@@ -119,11 +126,11 @@ module _ (e : Event) (old new : Hardware) (before after : ChronicleView) (lines 
         counts = counts_since begun.chronicle before after led.counts counts;
       }
 
-    module _ (hung : new_marks ≡ marks) (hardware : IsHardware new) (fit : Fit new.desc (machine_of new no_outside)) (unfailed : IsUnfailed new.desc (machine_of new no_outside)) where
+    module _ (hung : new_marks ≡ marks) (hardware : IsHardware new) (fit : Fit new.desc (machine_of new no_outside)) (serving : MemoriesServe new.desc (held_copies new)) where
       ready : (k : ℕ) → IsReadyFor (1 + k) old → IsReadyFor k new
       ready k is = record {
         number = suc is.number;
-        ready = goes_on is.number old new e lines marks is.ready (built_next e (scene old before lines marks) may) (allowed_next e (scene old before lines marks) may) hardware desc fit unfailed machine;
+        ready = goes_on is.number old new e lines marks is.ready (built_next e (scene old before lines marks) may) (allowed_next e (scene old before lines marks) may) hardware desc fit serving machine;
         room = (let room = is.room in omega (arith, room));
       }
 

@@ -7,7 +7,7 @@ use Rattle.seq_shelf.specs.Told.{LineView}
 use Rattle.seq_schedule.specs.declared.script.Script.TheVariants as scripts
 use Rattle.seq_schedule.specs.Scripted.{times, round_of}
 use Rattle.seq_turns.specs.Machines.{Machine}
-use Rattle.seq_settled.specs.Settled.{IsSettled}
+use Rattle.seq_lines.specs.Settled.{IsSettled}
 use Rattle.seq_machine.specs.declared.hardware.Hardware.{Hardware}
 use Rattle.seq_machine.specs.declared.hardware.Stop.{Stop}
 use Rattle.seq_machine.specs.Plain.{Outside, machine_of, outside_of, IsOutside}

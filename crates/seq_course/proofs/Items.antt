@@ -53,7 +53,7 @@ module _ (d : MachineDesc) (described : IsDescription d) (items : List Item) (fa
   faultless_here = subst (λ (l : List Item). AreFaultless d l) split faultless
 
   few : length (all_of d item.script) ≤ most_of d item.script
-  few = all_few d made.events (machine_after d made.events) item.script (λ k has. next_is_few d (take i items) (drop (i + 1) items) item made.events k described faultless_here made.passes has)
+  few = all_few d made.events item.script (λ k has. next_is_few d (take i items) (drop (i + 1) items) item made.events k described faultless_here made.passes has)
 
   room_left : room_of d (drop i items) ≡ most_of d item.script + room_of d (drop (i + 1) items)
   room_left = sum_by-drop_more (λ (x : Item). most_of d x.script) items i item inside ∙ ap (λ (x : Item). most_of d x.script + room_of d (drop (i + 1) items)) is
@@ -70,7 +70,7 @@ module _ (d : MachineDesc) (described : IsDescription d) (items : List Item) (fa
     begun = begun;
     made = made.events;
     led = made.led;
-    allowed = all_may d made.events (machine_after d made.events) item.script (λ k has. next_may_make d (take i items) (drop (i + 1) items) item made.events k described faultless_here made.passes has);
+    allowed = all_may d (machine_after d made.events) item.script (λ k. next_may_make d (take i items) (drop (i + 1) items) item made.events k described faultless_here made.passes);
   })
 
   -- it is made, and the next one follows

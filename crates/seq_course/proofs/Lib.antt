@@ -1,6 +1,8 @@
 pub mod Runs
 pub mod Lines
+pub mod Downs
 pub mod Ports
+pub mod Failures
 pub mod Scripts
 pub mod Passing
 pub mod Rooms

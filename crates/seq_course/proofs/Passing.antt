@@ -1,6 +1,7 @@
 -- What is passed, item by item: its events may be made, and the next item follows the rules.
 use Rattle.std.proofs.Common.{◌≡◌, ℕ, None, List, [], ◌∷◌, ◌++◌, refl, sym, subst}
 use Rattle.std.specs.List.{All}
+use Rattle.std.proofs.lemmas.Bool.{false≢true}
 use Rattle.std.proofs.lemmas.List.Elements.{All-head, All-tail}
 use Rattle.seq_words.specs.Description.{IsDescription}
 use Rattle.seq_words.specs.declared.description.MachineDesc.{MachineDesc}
@@ -9,15 +10,13 @@ use Rattle.seq_schedule.specs.declared.script.Script.{Script}
 use Rattle.seq_schedule.specs.declared.script.Item.{Item}
 use Rattle.seq_schedule.specs.Rules.{past, rule_of}
 use Rattle.seq_schedule.specs.Faultless.{IsBuiltScript, FollowRules, AreFaultless}
-use Rattle.seq_fits.proofs.Image.{machines_start_fit}
-use Rattle.seq_fits.proofs.Unfailed.{start_unfailed}
-use Rattle.seq_start.specs.Begun.{start_image}
+use Rattle.seq_invariant.proofs.Within.{start_holds_within}
 use Rattle.seq_machine.specs.Making.{MayMake}
 use Rattle.seq_machine.specs.Starting.{machine_at_start}
 use Rattle.seq_course.specs.Course.{machine_after, made_by, GoesOnTo, Passes}
-use Rattle.seq_course.proofs.Runs.{run-append, may-append}
+use Rattle.seq_course.proofs.Runs.{run-append, may-append, start_serves}
 use Rattle.seq_course.proofs.Ports.{IsAt, LeadTo}
-use Rattle.seq_course.proofs.Scripts.{arrived_by, closed_by, script_leads}
+use Rattle.seq_course.proofs.Scripts.{arrived_by, closed_by, failed_by, script_leads}
 
 -- ---- passes by their parts
 
@@ -48,7 +47,7 @@ passes_last d (j ∷ front) i from es passes =
 pub record Follow (d : MachineDesc) (es : List Event) (items : List Item) : Type 0 where
   pub before : List Script
   pub may : MayMake d es (machine_at_start d)
-  pub at : IsAt d (arrived_by before) (closed_by before) (machine_after d es)
+  pub at : IsAt d (arrived_by before) (closed_by before) (failed_by before) (machine_after d es)
   pub follow : FollowRules d before items
   pub built : All (λ i. IsBuiltScript i.script) items
 
@@ -56,7 +55,14 @@ pub start_follows : (d : MachineDesc) (items : List Item) → IsDescription d �
 start_follows d items described faultless = record {
   before = [];
   may = tt;
-  at = record { fit = machines_start_fit d described; unfailed = start_unfailed d (start_image d) described; arrived_is = λ l. refl; closed_is = λ l. refl };
+  at = record {
+    events = [];
+    holds = start_holds_within d described;
+    serving = start_serves d described;
+    arrived_is = λ l. refl;
+    closed_is = λ l. refl;
+    downs = λ p failed. absurd (false≢true failed);
+  };
   follow = faultless.follow;
   built = faultless.built;
 }
@@ -74,7 +80,7 @@ IsBuiltItem i = IsBuiltScript i.script
 
 module _ (d : MachineDesc) (described : IsDescription d) where
   -- the next item may be made, with any number of rounds
-  pub next_leads : (es : List Event) (i : Item) (items : List Item) (f : Follow d es (i ∷ items)) (k : ℕ) → LeadTo d (made_by d i.script k) (machine_after d es) (arrived_by (i.script ∷ f.before)) (closed_by (i.script ∷ f.before))
+  pub next_leads : (es : List Event) (i : Item) (items : List Item) (f : Follow d es (i ∷ items)) (k : ℕ) → LeadTo d (made_by d i.script k) (machine_after d es) (arrived_by (i.script ∷ f.before)) (closed_by (i.script ∷ f.before)) (failed_by (i.script ∷ f.before))
   next_leads es i items f k = script_leads d described f.before (machine_after d es) f.at i.script k (All-head IsBuiltItem i items f.built) (follow_head d f.before i items f.follow)
 
   pub next_may : (es : List Event) (i : Item) (items : List Item) → Follow d es (i ∷ items) → (k : ℕ) → MayMake d (es ++ made_by d i.script k) (machine_at_start d)
@@ -84,8 +90,8 @@ module _ (d : MachineDesc) (described : IsDescription d) where
   follows_on es next i items f goes =
       let made : List Event = made_by d i.script goes.rounds in
       let leads = next_leads es i items f goes.rounds in
-      let there : IsAt d (arrived_by (i.script ∷ f.before)) (closed_by (i.script ∷ f.before)) (machine_after d (es ++ made)) =
-      subst (IsAt d (arrived_by (i.script ∷ f.before)) (closed_by (i.script ∷ f.before))) (sym (run-append d es made (machine_at_start d))) leads.at
+      let there : IsAt d (arrived_by (i.script ∷ f.before)) (closed_by (i.script ∷ f.before)) (failed_by (i.script ∷ f.before)) (machine_after d (es ++ made)) =
+      subst (IsAt d (arrived_by (i.script ∷ f.before)) (closed_by (i.script ∷ f.before)) (failed_by (i.script ∷ f.before))) (sym (run-append d es made (machine_at_start d))) leads.at
       in
       let more : Follow d (es ++ made) items = record {
         before = i.script ∷ f.before;

@@ -1,5 +1,6 @@
--- What events make of the ports: how much has arrived at each, and whether it is closed.
-use Rattle.std.proofs.Common.{◌≡◌, ℕ, suc, ◌+◌, ◌<◌, ◌≤◌, Bool, true, false, ◌||◌, cond, eqb, List, [], ◌∷◌, length, map, refl, sym, ap, ◌∙◌, subst, arith, eq-eqb}
+-- What events make of the ports and of the processors that failed: how much has arrived at each port, and whether it is closed;
+-- and that what failed is down.
+use Rattle.std.proofs.Common.{◌≡◌, ℕ, suc, ◌+◌, ◌<◌, ◌≤◌, Bool, true, false, ◌||◌, cond, eqb, List, [], ◌∷◌, ◌++◌, length, map, refl, sym, ap, ◌∙◌, subst, arith, eq-eqb}
 use Rattle.std.specs.Prelude.{slice_set}
 use Rattle.std.proofs.lemmas.Bool.{cond_both, ne_eqb}
 use Rattle.seq_words.specs.Description.{IsDescription, line_count}
@@ -8,6 +9,7 @@ use Rattle.seq_words.specs.declared.description.MachineDesc.{MachineDesc}
 use Rattle.seq_words.specs.declared.events.Event.{Event}
 use Rattle.seq_words.specs.declared.events.Event.TheVariants as events
 use Rattle.seq_io.specs.declared.element.PortState.{PortState}
+use Rattle.seq_turns.specs.declared.hand.Hand.TheVariants as hand
 use Rattle.seq_turns.specs.Machines.{Machine, Turn}
 use Rattle.seq_turns.specs.Machines.Turn.{Moves, Looks, Copies_unit, Stops}
 use Rattle.seq_turns.specs.Processors.{turn}
@@ -15,29 +17,36 @@ use Rattle.seq_turns.specs.Duties.{Duty, duty, after_duty, rests}
 use Rattle.seq_turns.specs.Allowed.{MayArrive, MayClose, Allowed}
 use Rattle.seq_turns.specs.Events.{after_turn, after_io, happens, run}
 use Rattle.seq_turns.proofs.Functions.{update_cases}
-use Rattle.seq_fits.specs.Fit.{Fit}
-use Rattle.seq_fits.specs.Unfailed.{IsUnfailed, IsBuilt}
-use Rattle.seq_fits.proofs.Unfailed.{events_keep_unfailed}
+use Rattle.seq_invariant.specs.Within.{HoldsWithin}
+use Rattle.seq_invariant.proofs.Within.{events_keep_within}
+use Rattle.seq_machine.specs.Built.{IsBuilt, MemoriesServe}
 use Rattle.seq_machine.specs.Making.{MayMake}
+use Rattle.seq_machine.proofs.Building.{built_serve, built_goes_on}
+use Rattle.seq_course.proofs.Downs.{turn_stays, io_stays}
 
--- nothing has failed; so much has arrived on each line, and these are closed
-pub record IsAt (d : MachineDesc) (arrived : ℕ → ℕ) (closed : ℕ → Bool) (m : Machine) : Type 0 where
-  pub fit : Fit d m
-  pub unfailed : IsUnfailed d m
+-- All stands and every memory is in service; so much has arrived on each line, and these are closed; the processors that failed
+-- are down.
+pub record IsAt (d : MachineDesc) (arrived : ℕ → ℕ) (closed failed : ℕ → Bool) (m : Machine) : Type 0 where
+  pub events : List Event
+  pub holds : HoldsWithin d events m
+  pub serving : MemoriesServe d m.copies
   pub arrived_is : (l : ℕ) → (m.port l).arrived ≡ arrived l
   pub closed_is : (l : ℕ) → (m.port l).closed ≡ closed l
+  pub downs : (p : ℕ) → failed p ≡ true → m.hand p ≡ hand.Down
 
 -- the events may be made, and lead there
-pub record LeadTo (d : MachineDesc) (es : List Event) (m : Machine) (arrived : ℕ → ℕ) (closed : ℕ → Bool) : Type 0 where
+pub record LeadTo (d : MachineDesc) (es : List Event) (m : Machine) (arrived : ℕ → ℕ) (closed failed : ℕ → Bool) : Type 0 where
   pub may : MayMake d es m
-  pub at : IsAt d arrived closed (run d es m)
+  pub at : IsAt d arrived closed failed (run d es m)
 
-pub is_alike : (d : MachineDesc) (a a' : ℕ → ℕ) (c c' : ℕ → Bool) (m : Machine) → ((l : ℕ) → a l ≡ a' l) → ((l : ℕ) → c l ≡ c' l) → IsAt d a c m → IsAt d a' c' m
-is_alike d a a' c c' m arrived closed at = record {
-  fit = at.fit;
-  unfailed = at.unfailed;
+pub is_alike : (d : MachineDesc) (a a' : ℕ → ℕ) (c c' f f' : ℕ → Bool) (m : Machine) → ((l : ℕ) → a l ≡ a' l) → ((l : ℕ) → c l ≡ c' l) → ((p : ℕ) → f p ≡ f' p) → IsAt d a c f m → IsAt d a' c' f' m
+is_alike d a a' c c' f f' m arrived closed failed at = record {
+  events = at.events;
+  holds = at.holds;
+  serving = at.serving;
   arrived_is = λ l. at.arrived_is l ∙ arrived l;
   closed_is = λ l. at.closed_is l ∙ closed l;
+  downs = λ p is. at.downs p (failed p ∙ is);
 }
 
 -- ---- turns
@@ -91,6 +100,17 @@ counts_stay d m (events.Repair e) is l = absurd is
 counts_stay d m (events.Upset p half reg mask) is l = absurd is
 counts_stay d m (events.Hangup k) is l = absurd is
 
+-- no turn brings up what is down
+down_stays : (d : MachineDesc) (m : Machine) (e : Event) → IsTurn d e → (p : ℕ) → m.hand p ≡ hand.Down → (happens d m e).hand p ≡ hand.Down
+down_stays d m (events.Processor q) is p down = turn_stays d m p down q.0
+down_stays d m (events.Io i) is p down = io_stays d m p down i.0
+down_stays d m (events.Input k byte) is p down = absurd is
+down_stays d m (events.Close k) is p down = absurd is
+down_stays d m (events.Fail e) is p down = absurd is
+down_stays d m (events.Repair e) is p down = absurd is
+down_stays d m (events.Upset q half reg mask) is p down = absurd is
+down_stays d m (events.Hangup k) is p down = absurd is
+
 turn_is_built : (d : MachineDesc) (e : Event) → IsTurn d e → IsBuilt e
 turn_is_built d (events.Processor p) is = tt
 turn_is_built d (events.Io i) is = tt
@@ -112,25 +132,32 @@ turn_is_allowed d m (events.Upset p half reg mask) is = absurd is
 turn_is_allowed d m (events.Hangup k) is = absurd is
 
 module _ (d : MachineDesc) (described : IsDescription d) where
-  -- an event that may be made, with what it makes of the ports
-  goes : (a a' : ℕ → ℕ) (c c' : ℕ → Bool) (m : Machine) (e : Event) → IsBuilt e → Allowed d m e → ((l : ℕ) → ((happens d m e).port l).arrived ≡ a' l) → ((l : ℕ) → ((happens d m e).port l).closed ≡ c' l) → IsAt d a c m → IsAt d a' c' (happens d m e)
-  goes a a' c c' m e built allowed arrived closed at =
-      let stays = events_keep_unfailed d m e described at.fit built allowed at.unfailed in
-      record { fit = stays.fits; unfailed = stays.unfailed; arrived_is = arrived; closed_is = closed }
+  -- an event that may be made, with what it makes of the ports and of what failed
+  pub goes : (a a' : ℕ → ℕ) (c c' f f' : ℕ → Bool) (m : Machine) (e : Event) → IsBuilt e → Allowed d m e → ((l : ℕ) → ((happens d m e).port l).arrived ≡ a' l) → ((l : ℕ) → ((happens d m e).port l).closed ≡ c' l)
+      → ((p : ℕ) → f' p ≡ true → (happens d m e).hand p ≡ hand.Down) → IsAt d a c f m → IsAt d a' c' f' (happens d m e)
+  goes a a' c c' f f' m e built allowed arrived closed downs at = record {
+    events = at.events ++ e ∷ [];
+    holds = events_keep_within d at.events m e described allowed (built_goes_on d m e built at.serving) at.holds;
+    serving = built_serve d m e built at.serving;
+    arrived_is = arrived;
+    closed_is = closed;
+    downs = downs;
+  }
 
-  turn_goes : (a : ℕ → ℕ) (c : ℕ → Bool) (m : Machine) (e : Event) → IsTurn d e → IsAt d a c m → IsAt d a c (happens d m e)
-  turn_goes a c m e is at = goes a a c c m e (turn_is_built d e is) (turn_is_allowed d m e is) (λ l. (counts_stay d m e is l).arrived ∙ at.arrived_is l) (λ l. (counts_stay d m e is l).closed ∙ at.closed_is l) at
+  turn_goes : (a : ℕ → ℕ) (c f : ℕ → Bool) (m : Machine) (e : Event) → IsTurn d e → IsAt d a c f m → IsAt d a c f (happens d m e)
+  turn_goes a c f m e is at = goes a a c c f f m e (turn_is_built d e is) (turn_is_allowed d m e is) (λ l. (counts_stay d m e is l).arrived ∙ at.arrived_is l) (λ l. (counts_stay d m e is l).closed ∙ at.closed_is l)
+      (λ p failed. down_stays d m e is p (at.downs p failed)) at
 
-  pub turns_lead : (a : ℕ → ℕ) (c : ℕ → Bool) (m : Machine) (es : List Event) → AreTurns d es → IsAt d a c m → LeadTo d es m a c
-  turns_lead a c m [] are at = record { may = tt; at = at }
-  turns_lead a c m (e ∷ es) are at =
-      let rest = turns_lead a c (happens d m e) es are.1 (turn_goes a c m e are.0 at) in
-      record { may = (turn_is_built d e are.0, turn_is_allowed d m e are.0, rest.may); at = rest.at }
+  pub turns_lead : (a : ℕ → ℕ) (c f : ℕ → Bool) (m : Machine) (es : List Event) → AreTurns d es → IsAt d a c f m → LeadTo d es m a c f
+  turns_lead a c f m [] are at = record { may = tt; at = at }
+  turns_lead a c f m (e ∷ es) are at =
+      let rest = turns_lead a c f (happens d m e) es are.1 (turn_goes a c f m e are.0 at) in
+      record { may = (turn_is_built d e are.0, turn_is_allowed d m e are.0, at.holds.clears, rest.may); at = rest.at }
 
   -- ---- a byte arrives, and a line is closed
 
-  input_goes : (a : ℕ → ℕ) (c : ℕ → Bool) (m : Machine) (k : LineNo) (byte : ℕ) → MayArrive d k.0 (m.port k.0) → IsAt d a c m → IsAt d (λ l. cond (eqb l k.0) 1 0 + a l) c (happens d m (events.Input k byte))
-  input_goes a c m k byte may at = goes a (λ l. cond (eqb l k.0) 1 0 + a l) c c m (events.Input k byte) tt may arrived closed at
+  input_goes : (a : ℕ → ℕ) (c f : ℕ → Bool) (m : Machine) (k : LineNo) (byte : ℕ) → MayArrive d k.0 (m.port k.0) → IsAt d a c f m → IsAt d (λ l. cond (eqb l k.0) 1 0 + a l) c f (happens d m (events.Input k byte))
+  input_goes a c f m k byte may at = goes a (λ l. cond (eqb l k.0) 1 0 + a l) c c f f m (events.Input k byte) tt may arrived closed at.downs at
     where
       new : PortState
       new = record (m.port k.0) { arrived = suc (m.port k.0).arrived; store = slice_set (m.port k.0).store (m.port k.0).arrived byte }
@@ -143,8 +170,8 @@ module _ (d : MachineDesc) (described : IsDescription d) where
       closed : (l : ℕ) → ((happens d m (events.Input k byte)).port l).closed ≡ c l
       closed l = update_cases (λ (p : PortState). p.closed ≡ c l) m.port k.0 new l (λ e. at.closed_is k.0 ∙ sym (ap c e)) (λ ne. at.closed_is l)
 
-  close_goes : (a : ℕ → ℕ) (c : ℕ → Bool) (m : Machine) (k : LineNo) → MayClose d k.0 (m.port k.0) → IsAt d a c m → IsAt d a (λ l. eqb l k.0 || c l) (happens d m (events.Close k))
-  close_goes a c m k may at = goes a a c (λ l. eqb l k.0 || c l) m (events.Close k) tt may arrived closed at
+  close_goes : (a : ℕ → ℕ) (c f : ℕ → Bool) (m : Machine) (k : LineNo) → MayClose d k.0 (m.port k.0) → IsAt d a c f m → IsAt d a (λ l. eqb l k.0 || c l) f (happens d m (events.Close k))
+  close_goes a c f m k may at = goes a a c (λ l. eqb l k.0 || c l) f f m (events.Close k) tt may arrived closed at.downs at
     where
       new : PortState
       new = record (m.port k.0) { closed = true }
@@ -157,10 +184,10 @@ module _ (d : MachineDesc) (described : IsDescription d) where
           (λ e. sym (ap (λ b. b || c l) (eq-eqb l k.0 e)))
           (λ ne. at.closed_is l ∙ sym (ap (λ b. b || c l) (ne_eqb l k.0 ne)))
 
-  pub close_leads : (a : ℕ → ℕ) (c : ℕ → Bool) (m : Machine) (k : LineNo) → k.0 < line_count d → c k.0 ≡ false → IsAt d a c m → LeadTo d (events.Close k ∷ []) m a (λ l. eqb l k.0 || c l)
-  close_leads a c m k there unclosed at =
+  pub close_leads : (a : ℕ → ℕ) (c f : ℕ → Bool) (m : Machine) (k : LineNo) → k.0 < line_count d → c k.0 ≡ false → IsAt d a c f m → LeadTo d (events.Close k ∷ []) m a (λ l. eqb l k.0 || c l) f
+  close_leads a c f m k there unclosed at =
       let may : MayClose d k.0 (m.port k.0) = record { line = there; unclosed = at.closed_is k.0 ∙ unclosed } in
-      record { may = (tt, may, tt); at = close_goes a c m k may at }
+      record { may = (tt, may, at.holds.clears, tt); at = close_goes a c f m k may at }
 
   none : (b : Bool) (n : ℕ) → n ≡ cond b 0 0 + n
   none true n = omega arith
@@ -170,16 +197,16 @@ module _ (d : MachineDesc) (described : IsDescription d) where
   one_more true n k = omega arith
   one_more false n k = omega arith
 
-  pub inputs_lead : (a : ℕ → ℕ) (c : ℕ → Bool) (m : Machine) (k : LineNo) (bytes : List ℕ) → k.0 < line_count d → a k.0 + length bytes ≤ d.journal → c k.0 ≡ false → IsAt d a c m
-      → LeadTo d (map (λ byte. events.Input k byte) bytes) m (λ l. cond (eqb l k.0) (length bytes) 0 + a l) c
-  inputs_lead a c m k [] there room unclosed at = record { may = tt; at = is_alike d a (λ l. cond (eqb l k.0) 0 0 + a l) c c m (λ l. none (eqb l k.0) (a l)) (λ l. refl) at }
-  inputs_lead a c m k (byte ∷ bytes) there room unclosed at =
+  pub inputs_lead : (a : ℕ → ℕ) (c f : ℕ → Bool) (m : Machine) (k : LineNo) (bytes : List ℕ) → k.0 < line_count d → a k.0 + length bytes ≤ d.journal → c k.0 ≡ false → IsAt d a c f m
+      → LeadTo d (map (λ byte. events.Input k byte) bytes) m (λ l. cond (eqb l k.0) (length bytes) 0 + a l) c f
+  inputs_lead a c f m k [] there room unclosed at = record { may = tt; at = is_alike d a (λ l. cond (eqb l k.0) 0 0 + a l) c c f f m (λ l. none (eqb l k.0) (a l)) (λ l. refl) (λ p. refl) at }
+  inputs_lead a c f m k (byte ∷ bytes) there room unclosed at =
       let now : (m.port k.0).arrived ≡ a k.0 = at.arrived_is k.0 in
       let may : MayArrive d k.0 (m.port k.0) = record { line = there; room = omega (arith, now, room); unclosed = at.closed_is k.0 ∙ unclosed } in
       let left : cond (eqb k.0 k.0) 1 0 + a k.0 + length bytes ≤ d.journal = rw (eq-eqb k.0 k.0 refl) (omega (arith, room)) in
-      let rest = inputs_lead (λ l. cond (eqb l k.0) 1 0 + a l) c (happens d m (events.Input k byte)) k bytes there left unclosed (input_goes a c m k byte may at) in
+      let rest = inputs_lead (λ l. cond (eqb l k.0) 1 0 + a l) c f (happens d m (events.Input k byte)) k bytes there left unclosed (input_goes a c f m k byte may at) in
       record {
-        may = (tt, may, rest.may);
-        at = is_alike d (λ l. cond (eqb l k.0) (length bytes) 0 + (cond (eqb l k.0) 1 0 + a l)) (λ l. cond (eqb l k.0) (length (byte ∷ bytes)) 0 + a l) c c (run d (map (λ b. events.Input k b) (byte ∷ bytes)) m)
-            (λ l. sym (one_more (eqb l k.0) (length bytes) (a l))) (λ l. refl) rest.at;
+        may = (tt, may, at.holds.clears, rest.may);
+        at = is_alike d (λ l. cond (eqb l k.0) (length bytes) 0 + (cond (eqb l k.0) 1 0 + a l)) (λ l. cond (eqb l k.0) (length (byte ∷ bytes)) 0 + a l) c c f f (run d (map (λ b. events.Input k b) (byte ∷ bytes)) m)
+            (λ l. sym (one_more (eqb l k.0) (length bytes) (a l))) (λ l. refl) (λ p. refl) rest.at;
       }

@@ -9,21 +9,18 @@ use Rattle.seq_schedule.specs.declared.script.Script.TheVariants as scripts
 use Rattle.seq_schedule.specs.declared.script.Item.{Item}
 use Rattle.seq_schedule.specs.Faultless.{AreFaultless}
 use Rattle.seq_stands.specs.Standing.{AllAllowed}
-use Rattle.seq_fits.proofs.Image.{machines_start_fit}
-use Rattle.seq_fits.proofs.Unfailed.{start_unfailed}
-use Rattle.seq_start.specs.Begun.{start_image}
 use Rattle.seq_invariant.proofs.Start.{runs_hold}
 use Rattle.seq_invariant.proofs.Gives.{committed_is_flat_run, runs_send_right, settled_is_done}
 use Rattle.seq_machine.specs.Making.{MayMake}
 use Rattle.seq_machine.specs.Starting.{machine_at_start}
 use Rattle.seq_course.specs.Course.{machine_after, SettledAfter, made_by, GoesOn, Passes, EndsAt, ComesTo}
 use Rattle.seq_course.specs.Done.{RightAfter, DoneAfter, CoursesAreRight, EndsAreRight, StopsAreRight, FaultlessFinishesAreDone}
-use Rattle.seq_course.proofs.Runs.{may_begin, all_allowed}
+use Rattle.seq_course.proofs.Runs.{may_begin, all_allowed, start_serves}
 use Rattle.seq_course.proofs.Passing.{Follow, follows, next_may, passes_last}
 
 module _ (d : MachineDesc) (described : IsDescription d) where
   allowed : (es : List Event) → MayMake d es (machine_at_start d) → AllAllowed d es (machine_at_start d)
-  allowed es may = all_allowed d es (machine_at_start d) described (machines_start_fit d described) (start_unfailed d (start_image d) described) may
+  allowed es may = all_allowed d es (machine_at_start d) (start_serves d described) may
 
   right : (es : List Event) → MayMake d es (machine_at_start d) → RightAfter d es
   right es may = runs_send_right d es described (allowed es may)

@@ -20,7 +20,7 @@ use Rattle.seq_course.specs.Making.{Scene, LedTo, MayCome, Makes, HaltsAt, Break
 -- what may be made behind a part
 pub rest_may : (d : MachineDesc) (xs ys : List Event) (m : Machine) → MayMake d (xs ++ ys) m → MayMake d ys (run d xs m)
 rest_may d [] ys m may = may
-rest_may d (x ∷ xs) ys m may = rest_may d xs ys (happens d m x) may.2
+rest_may d (x ∷ xs) ys m may = rest_may d xs ys (happens d m x) may.3
 
 -- room for more is room for less
 pub ready_less : (n k : ℕ) (h : Hardware) → k ≤ n → IsReadyFor n h → IsReadyFor k h

@@ -15,7 +15,7 @@ use Rattle.seq_course.specs.Course.{HasMade, made_by, GoesOn}
 use Rattle.seq_course.specs.Room.{most_of}
 use Rattle.seq_course.specs.Making.{Scene, LedTo, MayCome, Keeps, Makes, HaltsAmong, Breaks, all_of, IsMade, MakesScript, HaltsIn, BreaksScript}
 use Rattle.seq_course.proofs.Lists.{length_times}
-use Rattle.seq_course.proofs.Rounds.{length_round, rounds_may}
+use Rattle.seq_course.proofs.Rounds.{length_round}
 
 -- a script that makes the same events whatever the machine has come to
 pub record IsPlain (s : Script) : Type 0 where
@@ -127,16 +127,18 @@ module _ (s : Script) (more : List Event) (a : Scene) (stands : StandsFor a.hard
       hung = breaks.hung;
     }
 
--- ---- all that it may make may be made, and there is room for it, if this is so of what it has reached
-module _ (d : MachineDesc) (es : List Event) (m : Machine) where
-  pub all_may : (s : Script) → ((k : ℕ) → HasMade d es s k → MayMake d (made_by d s k) m) → MayMake d (all_of d s) m
+-- ---- all that it may make may be made, if any number of rounds may
+module _ (d : MachineDesc) (m : Machine) where
+  pub all_may : (s : Script) → ((k : ℕ) → MayMake d (made_by d s k) m) → MayMake d (all_of d s) m
   unfolding events_in
-  all_may (scripts.One e) each = each 0 tt
-  all_may (scripts.Bytes l bytes) each = each 0 tt
-  all_may (scripts.Turns x n) each = each 0 tt
-  all_may (scripts.Rounds n) each = each 0 tt
-  all_may (scripts.Finish n) each = rounds_may d n m
+  all_may (scripts.One e) each = each 0
+  all_may (scripts.Bytes l bytes) each = each 0
+  all_may (scripts.Turns x n) each = each 0
+  all_may (scripts.Rounds n) each = each 0
+  all_may (scripts.Finish n) each = each n
 
+-- and there is room for it, if there is for what it has reached
+module _ (d : MachineDesc) (es : List Event) where
   pub all_few : (s : Script) → ((k : ℕ) → HasMade d es s k → length (made_by d s k) ≤ most_of d s) → length (all_of d s) ≤ most_of d s
   unfolding events_in
   all_few (scripts.One e) each = each 0 tt

@@ -1,32 +1,33 @@
 -- What an event adds to the history and to the bytes sent is what its note says.
-use Rattle.std.proofs.Common.{◌≡◌, inl, inr, ℕ, ◌<◌, ◌==◌, List, [], ◌++◌, Option, Some, None, refl, sym, ◌∙◌, ap, subst, append-nil, eq-eqb}
-use Rattle.std.specs.Prelude.{slice_index}
+use Rattle.std.proofs.Common.{◌≡◌, inl, inr, ℕ, ◌<◌, ◌==◌, List, [], ◌++◌, Option, Some, None, refl, sym, ◌∙◌, ap, append-nil, eq-eqb}
 use Rattle.std.proofs.lemmas.Bool.{cond_both, cases_Bool, cond-true, cond-false, ne_eqb}
 use Rattle.seq_words.specs.declared.description.MachineDesc.{MachineDesc}
 use Rattle.seq_words.specs.declared.events.Entry.{Entry}
 use Rattle.seq_words.specs.declared.events.Event.{Event}
 use Rattle.seq_words.specs.declared.events.Event.TheVariants as event
+use Rattle.seq_words.specs.declared.names.Pe.{Pe}
+use Rattle.seq_words.specs.declared.kinds.Element.TheVariants as element
 use Rattle.seq_shelf.specs.Rows.{on_line}
-use Rattle.seq_layout.specs.Copies.{copies}
 use Rattle.seq_io.specs.Turns.{bytes_of}
+use Rattle.seq_kernel.specs.declared.outcomes.Note.{Note}
+use Rattle.seq_kernel.specs.declared.outcomes.Note.TheVariants.{Made, Stopped}
 use Rattle.seq_turns.specs.Functions.{update}
 use Rattle.seq_turns.specs.Machines.{Machine, Turn, history_after}
 use Rattle.seq_turns.specs.Machines.Turn.{Moves, Looks, Copies_unit, Stops}
 use Rattle.seq_turns.specs.Duties.{duty, after_duty, rests, sent_after}
 use Rattle.seq_turns.specs.Processors.{turn}
 use Rattle.seq_turns.specs.Allowed.{Allowed}
-use Rattle.seq_turns.specs.Events.{after_turn, after_io, happens, note, note_of_turn}
+use Rattle.seq_turns.specs.Events.{is_down, stopped, after_turn, after_io, happens, note, note_of_turn}
 use Rattle.seq_turns.proofs.Functions.{update_cases}
-use Rattle.seq_fits.specs.Unfailed.{IsBuilt}
 use Rattle.seq_machine.specs.declared.hardware.Hardware.{Hardware}
+use Rattle.seq_machine.specs.Built.{IsBuilt}
 use Rattle.seq_machine.specs.Here.{commit_of}
-use Rattle.seq_machine.specs.Plain.{Outside, machine_of, processor_of}
+use Rattle.seq_machine.specs.Plain.{Outside, machine_of}
 use Rattle.seq_machine.specs.Processors.{MayTurn}
 use Rattle.seq_machine.specs.Serving.{sent_by}
 use Rattle.seq_machine.specs.Starting.{no_outside}
 use Rattle.seq_machine.specs.Happening.{sent_in, entries_in, entries_of}
-use Rattle.seq_machine.proofs.Tied.{turn_is}
-use Rattle.seq_machine.proofs.Commits.{local_tells}
+use Rattle.seq_machine.proofs.Commits.{turn_tells}
 use Rattle.seq_machine.proofs.EventParts.{turn_unsent}
 use Rattle.seq_machine.proofs.Outgoing.{sent_told, nothing_committed}
 use Rattle.seq_machine.proofs.Unchanged.{turn_sends_none}
@@ -50,8 +51,7 @@ module _ (h : Hardware) (p : ℕ) (may : MayTurn h p) (o : Outside) where
   t = turn h.desc m p (m.hand p)
 
   told : entries_of (commit_of t) ≡ entries_in (note_of_turn p t)
-  told = subst (λ (x : Turn). entries_of (commit_of x) ≡ entries_in (note_of_turn p x)) (sym (turn_is h.desc m p may.uncopied may.undeserted))
-      (sym (local_tells h.desc (copies h.layout h.memories) (processor_of h p).cache (slice_index h.incarnations p) (slice_index h.scan p) p (processor_of h p).hand may.needs).told)
+  told = sym (turn_tells h p may.uncopied o).told
 
   turn_told : (after_turn h.desc m p t).history ≡ o.history ++ entries_in (note_of_turn p t)
   turn_told = turn_adds h.desc m p t ∙ ap (λ (xs : List Entry). o.history ++ xs) told
@@ -90,7 +90,24 @@ module _ (d : MachineDesc) (m : Machine) (i : ℕ) where
   io_sent : (l : ℕ) → (after_io d m i).sent l ≡ m.sent l ++ sent_in (note d m (event.Io (record { 0 = i }))) l
   io_sent l = io_adds l ∙ ap (λ (x : List ℕ). m.sent l ++ x) (sent_told d m i l)
 
--- ---- any event of a machine whose elements don't fail
+-- ---- a failure of a processor: the note says that nothing was sent or committed
+module _ (d : MachineDesc) (m : Machine) (e : Pe) where
+  abbrev failing : Event
+  failing = event.Fail (element.Processor e)
+
+  failure_told : (happens d m failing).history ≡ m.history ++ entries_in (note d m failing)
+  failure_told =
+      cond_both (is_down (m.hand e.0)) m (stopped m e.0) (λ (n : Machine). n.history ≡ m.history) (λ _. refl) (λ _. refl)
+      ∙ sym (append-nil m.history)
+      ∙ ap (λ (xs : List Entry). m.history ++ xs) (cond_both (is_down (m.hand e.0)) Made (Stopped (element.Processor e)) (λ (n : Note). [] ≡ entries_in n) (λ _. refl) (λ _. refl))
+
+  failure_sent : (l : ℕ) → (happens d m failing).sent l ≡ m.sent l ++ sent_in (note d m failing) l
+  failure_sent l =
+      cond_both (is_down (m.hand e.0)) m (stopped m e.0) (λ (n : Machine). n.sent l ≡ m.sent l) (λ _. refl) (λ _. refl)
+      ∙ sym (append-nil (m.sent l))
+      ∙ ap (λ (xs : List ℕ). m.sent l ++ xs) (cond_both (is_down (m.hand e.0)) Made (Stopped (element.Processor e)) (λ (n : Note). [] ≡ sent_in n l) (λ _. refl) (λ _. refl))
+
+-- ---- any event that the machine makes
 pub record IsTold (d : MachineDesc) (m : Machine) (e : Event) : Type 0 where
   pub history : (happens d m e).history ≡ m.history ++ entries_in (note d m e)
   pub sent : (l : ℕ) → (happens d m e).sent l ≡ m.sent l ++ sent_in (note d m e) l
@@ -101,7 +118,11 @@ module _ (h : Hardware) (turns : (p : ℕ) → p < h.desc.processors → MayTurn
   is_told (event.Io i) built there = record { history = io_told h.desc (machine_of h o) i.0; sent = io_sent h.desc (machine_of h o) i.0 }
   is_told (event.Input l byte) built there = record { history = sym (append-nil o.history); sent = λ k. sym (append-nil (o.sent k)) }
   is_told (event.Close l) built there = record { history = sym (append-nil o.history); sent = λ k. sym (append-nil (o.sent k)) }
-  is_told (event.Fail e) built there = absurd built
-  is_told (event.Repair e) built there = absurd built
+  is_told (event.Fail (element.Processor p)) built there = record { history = failure_told h.desc (machine_of h o) p; sent = failure_sent h.desc (machine_of h o) p }
+  is_told (event.Fail (element.Memory i)) built there = absurd built
+  is_told (event.Fail (element.Io i)) built there = absurd built
+  is_told (event.Repair (element.Processor p)) built there = record { history = sym (append-nil o.history); sent = λ k. sym (append-nil (o.sent k)) }
+  is_told (event.Repair (element.Memory i)) built there = absurd built
+  is_told (event.Repair (element.Io i)) built there = absurd built
   is_told (event.Upset p half reg mask) built there = absurd built
   is_told (event.Hangup l) built there = absurd built

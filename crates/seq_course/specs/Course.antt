@@ -8,7 +8,7 @@ use Rattle.seq_schedule.specs.declared.script.Item.{Item}
 use Rattle.seq_schedule.specs.Scripted.{times, round_of, events_in}
 use Rattle.seq_turns.specs.Machines.{Machine}
 use Rattle.seq_turns.specs.Events.{run}
-use Rattle.seq_settled.specs.Settled.{IsSettled}
+use Rattle.seq_lines.specs.Settled.{IsSettled}
 use Rattle.seq_machine.specs.Starting.{machine_at_start}
 
 -- the machine of a description after these events, from its start

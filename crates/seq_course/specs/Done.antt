@@ -9,7 +9,7 @@ use Rattle.seq_schedule.specs.declared.script.Script.TheVariants as scripts
 use Rattle.seq_schedule.specs.declared.script.Item.{Item}
 use Rattle.seq_schedule.specs.Faultless.{AreFaultless}
 use Rattle.seq_lines.specs.Arrivals.{arrived}
-use Rattle.seq_settled.specs.Settled.{IsDone}
+use Rattle.seq_lines.specs.Settled.{IsDone}
 use Rattle.seq_course.specs.Course.{machine_after, Passes, EndsAt, ComesTo}
 
 -- What was released after these events is right: the history is a flat run with what arrived in them, and the bytes sent on each

@@ -16,3 +16,11 @@ pub mod StartImages
 pub mod WholeImages
 pub mod FlushedUnits
 pub mod Copied
+pub mod Depends
+pub mod Layers
+pub mod TurnsAhead
+pub mod StaysAhead
+pub mod ImageBytes
+pub mod CommitsAhead
+pub mod GrantsAhead
+pub mod Halves

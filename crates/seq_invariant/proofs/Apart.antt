@@ -14,13 +14,13 @@ use Rattle.seq_stands.specs.Locks.{lock_view, LockClaims, LocksStand}
 use Rattle.seq_stands.specs.Locks.Hold.{Whole}
 use Rattle.seq_stands.specs.Locks.LockGrip.{With}
 use Rattle.seq_stands.proofs.Gripped.{Firm}
-use Rattle.seq_blocks.specs.Areas.{segments_of, hand_area, left_area}
-use Rattle.seq_blocks.specs.Left.{IsLeft}
-use Rattle.seq_blocks.specs.Frame.{IsApart}
-use Rattle.seq_blocks.specs.Standing.{IsInHand, IsInLeft}
-use Rattle.seq_blocks.specs.Stops.{IsFree}
-use Rattle.seq_blocks.proofs.Apart.{Has, has, lock_claims, lock_of, inside, hands_are_apart}
-use Rattle.seq_blocks.proofs.Frame.{left_there}
+use Rattle.seq_invariant.specs.BlockAreas.{segments_of, hand_area, left_area}
+use Rattle.seq_invariant.specs.BlockLeft.{IsLeft}
+use Rattle.seq_invariant.specs.BlockFrame.{IsApart}
+use Rattle.seq_invariant.specs.BlockStanding.{IsInHand, IsInLeft}
+use Rattle.seq_invariant.specs.BlockStops.{IsFree}
+use Rattle.seq_invariant.proofs.BlockApart.{Has, has, lock_claims, lock_of, inside, hands_are_apart}
+use Rattle.seq_invariant.proofs.BlockFrame.{left_there}
 use Rattle.seq_invariant.proofs.Left.{gripped_is_kept}
 
 -- a primary lock word that names a process says its number

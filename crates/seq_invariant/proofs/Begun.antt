@@ -1,19 +1,14 @@
 -- A recovery begins to clear lock words with none cleared, and only a turn of that recovery raises their number.
-use Rattle.std.proofs.Common.{◌≡◌, ℕ, ◌+◌, ◌-◌, Bool, true, false, ◌==◌, nat_le, Option, Some, None, length, refl, ap, sym, ◌∙◌, subst}
+use Rattle.std.proofs.Common.{◌≡◌, ℕ, ◌+◌, true, ◌==◌, nat_le, Option, Some, None, length, refl, sym, subst}
 use Rattle.std.proofs.lemmas.Bool.{cond_both}
 use Rattle.seq_words.specs.declared.description.MachineDesc.{MachineDesc}
-use Rattle.seq_words.specs.declared.names.Seg.{Seg}
 use Rattle.seq_layout.specs.Shapes.{shape_of}
 use Rattle.seq_flat.specs.declared.state.End.{End}
 use Rattle.seq_flat.specs.declared.state.End.TheVariants.{Live, Exited, Trapped}
 use Rattle.seq_process.specs.Contexts.{end_of}
 use Rattle.seq_process.specs.declared.running.Running.{Running}
-use Rattle.seq_cache.specs.Changes.{Changes}
 use Rattle.seq_kernel.specs.declared.outcomes.Cause.{Cause}
-use Rattle.seq_locks.specs.declared.claim.Claim.{Claim}
-use Rattle.seq_locks.specs.declared.stages.Shadow as shadow_stage
 use Rattle.seq_locks.specs.Turns.{is_taken}
-use Rattle.seq_flush.specs.Turns.{into_stage as flush_into}
 use Rattle.seq_turns.specs.declared.hand.Hand.{Hand}
 use Rattle.seq_turns.specs.declared.hand.Hand.TheVariants as hand
 use Rattle.seq_turns.specs.declared.hand.FlushAt.{FlushAt}
@@ -22,15 +17,14 @@ use Rattle.seq_turns.specs.declared.hand.ReleaseAt.{ReleaseAt}
 use Rattle.seq_turns.specs.declared.hand.ReleaseAt.TheVariants as release
 use Rattle.seq_turns.specs.declared.recovery.Locks as locks_stage
 use Rattle.seq_turns.specs.declared.recovery.Recovery.{Recovery}
-use Rattle.seq_turns.specs.declared.recovery.RecoveryAt.{RecoveryAt}
 use Rattle.seq_turns.specs.declared.recovery.RecoveryAt.TheVariants as recovery
 use Rattle.seq_turns.specs.Machines.{Machine, Move, Turn}
 use Rattle.seq_turns.specs.Machines.Turn.{Moves, Looks, Copies_unit, Stops}
 use Rattle.seq_turns.specs.Reading.{context_of, copied_memory}
 use Rattle.seq_turns.specs.Causes.{follows}
-use Rattle.seq_turns.specs.Operations.{taken_up, claims, acquires, unit_count, flush_move, unlock_move, leave_move, less}
-use Rattle.seq_turns.specs.Recoveries.{into_stage, recovered_blocks, recovery_move}
-use Rattle.seq_turns.specs.Processors.{is_free, looks, deserted, seeks, runs, someone_amid, copies_or_waits, seeks_or_copies, runs_or_copies, turn}
+use Rattle.seq_turns.specs.Operations.{taken_up, acquires, unit_count, flush_move, unlock_move, leave_move, less}
+use Rattle.seq_turns.specs.Recoveries.{into_stage, recovered_blocks}
+use Rattle.seq_turns.specs.Processors.{is_free, deserted, seeks, runs, someone_amid, copies_or_waits, seeks_or_copies, runs_or_copies, turn}
 use Rattle.seq_stands.specs.Grips.{Stage, grip}
 use Rattle.seq_stands.specs.Grips.Kind.{Run}
 use Rattle.seq_stands.specs.Grips.Stage.{Holding}

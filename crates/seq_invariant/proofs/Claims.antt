@@ -20,10 +20,10 @@ use Rattle.seq_stands.specs.Locks.{LocksStand}
 use Rattle.seq_stands.proofs.Frame.{alone_free}
 use Rattle.seq_stands.proofs.Gripped.{Firm, named_at, named_firm, same_holder}
 use Rattle.seq_stands.proofs.Seeks.{free_from}
-use Rattle.seq_blocks.specs.Apart.{owners_of}
-use Rattle.seq_blocks.specs.Works.{Committed}
-use Rattle.seq_blocks.specs.Standing.{BlocksStand}
-use Rattle.seq_blocks.specs.Turns.{CanBeTakenUp}
+use Rattle.seq_invariant.specs.BlockApart.{owners_of}
+use Rattle.seq_invariant.specs.BlockWorks.{Committed}
+use Rattle.seq_invariant.specs.BlockStanding.{BlocksStand}
+use Rattle.seq_invariant.specs.BlockTurns.{CanBeTakenUp}
 use Rattle.seq_invariant.proofs.Left.{gripped_is_kept}
 use Rattle.seq_invariant.proofs.Tame.{not_recovering}
 use Rattle.seq_invariant.proofs.Free.{can_be_taken_up}

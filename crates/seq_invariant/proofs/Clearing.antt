@@ -28,12 +28,12 @@ use Rattle.seq_stands.proofs.Gripped.{process_of, recovery_stage, all_recovered}
 use Rattle.seq_stands.proofs.LockTurns.{only_unchanged, only_status}
 use Rattle.seq_stands.proofs.Numbers.{word_taken}
 use Rattle.seq_cache.specs.Changes.{IsCache}
-use Rattle.seq_blocks.specs.Apart.{owners_of}
-use Rattle.seq_blocks.specs.Hands.{RecoveryKnows}
-use Rattle.seq_blocks.specs.Works.{Committed}
-use Rattle.seq_blocks.specs.Left as left
-use Rattle.seq_blocks.specs.Left.{HasToCopy, IsLeft}
-use Rattle.seq_blocks.specs.Turns.{AfterMove}
+use Rattle.seq_invariant.specs.BlockApart.{owners_of}
+use Rattle.seq_invariant.specs.BlockHands.{RecoveryKnows}
+use Rattle.seq_invariant.specs.BlockWorks.{Committed}
+use Rattle.seq_invariant.specs.BlockLeft as left
+use Rattle.seq_invariant.specs.BlockLeft.{HasToCopy, IsLeft}
+use Rattle.seq_invariant.specs.BlockTurns.{AfterMove}
 use Rattle.seq_invariant.specs.Holds.{Holds}
 use Rattle.seq_invariant.proofs.Left.{deserted_word, gripped_is_alive}
 use Rattle.seq_invariant.proofs.Kept.{LeavesNames, IsQuiet, unchanged_quiet, word_quiet, only_names, shadow_names, primary_names, keeps_left}

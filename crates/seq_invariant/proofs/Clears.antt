@@ -27,9 +27,9 @@ use Rattle.seq_stands.specs.Standing.{Stands}
 use Rattle.seq_stands.specs.Locks.{ContextOwns}
 use Rattle.seq_stands.proofs.Gripped.{all_recovered}
 use Rattle.seq_stands.proofs.Law.{events_keep}
-use Rattle.seq_locks_stand.proofs.Apart.{duty_does}
-use Rattle.seq_fits.specs.Fit.{ClearsInOrder}
-use Rattle.seq_blocks.specs.Apart.{owners_of}
+use Rattle.seq_stands.proofs.LockApart.{duty_does}
+use Rattle.seq_stands.specs.Fit.{ClearsInOrder}
+use Rattle.seq_invariant.specs.BlockApart.{owners_of}
 use Rattle.seq_invariant.specs.Holds.{AllHolds}
 use Rattle.seq_invariant.specs.Within.{EventsKeepOrder}
 use Rattle.seq_invariant.proofs.Names.{NamesNoMore, unchanged_names, plain_block_names, line_names}

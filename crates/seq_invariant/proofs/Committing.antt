@@ -26,19 +26,19 @@ use Rattle.seq_turns.specs.Operations.{unit_count, goes, says, committed}
 use Rattle.seq_stands.specs.Grips.{grip}
 use Rattle.seq_stands.specs.Words.{words_of, GripHolds, WordsStand}
 use Rattle.seq_stands.specs.Locks.{whole_if, held_in, owners_with, LocksStand}
-use Rattle.seq_blocks.specs.Apart.{owners_of}
-use Rattle.seq_blocks.specs.Areas.{is_whole, hand_area, segments_of}
-use Rattle.seq_blocks.specs.Works.{Committed, with_commit, Commits}
-use Rattle.seq_blocks.specs.Hands.{HandKnows}
-use Rattle.seq_blocks.specs.Standing.{BlocksStand}
-use Rattle.seq_blocks.specs.Frame.{IsApart, KeepsLeft}
-use Rattle.seq_blocks.specs.Turns.{IsOther}
-use Rattle.seq_blocks.proofs.Apart.{flushes_commit_alone}
-use Rattle.seq_blocks.proofs.Commits.{commit_knows}
-use Rattle.seq_blocks.proofs.Inputs.{commits_are_written}
-use Rattle.seq_blocks.proofs.Inside.{word_within}
-use Rattle.seq_blocks.proofs.Frame.{moves_keep_blocks}
-use Rattle.seq_blocks.proofs.Turns.{hands_stay_at_commits, commits_stay_inside}
+use Rattle.seq_invariant.specs.BlockApart.{owners_of}
+use Rattle.seq_invariant.specs.BlockAreas.{is_whole, hand_area, segments_of}
+use Rattle.seq_invariant.specs.BlockWorks.{Committed, with_commit, Commits}
+use Rattle.seq_invariant.specs.BlockHands.{HandKnows}
+use Rattle.seq_invariant.specs.BlockStanding.{BlocksStand}
+use Rattle.seq_invariant.specs.BlockFrame.{IsApart, KeepsLeft}
+use Rattle.seq_invariant.specs.BlockTurns.{IsOther}
+use Rattle.seq_invariant.proofs.BlockApart.{flushes_commit_alone}
+use Rattle.seq_invariant.proofs.BlockCommits.{commit_knows}
+use Rattle.seq_invariant.proofs.BlockInputs.{commits_are_written}
+use Rattle.seq_invariant.proofs.BlockInside.{word_within}
+use Rattle.seq_invariant.proofs.BlockFrame.{moves_keep_blocks}
+use Rattle.seq_invariant.proofs.BlockTurns.{hands_stay_at_commits, commits_stay_inside}
 use Rattle.seq_lines.specs.Inside.{IsMask}
 use Rattle.seq_invariant.proofs.Moved.{TurnMade}
 use Rattle.seq_invariant.proofs.Owners.{owners_next}

@@ -35,12 +35,12 @@ use Rattle.seq_stands.proofs.Numbers.{word_taken, same_processor, same_incarnati
 use Rattle.seq_stands.specs.Service.{IsEqual}
 use Rattle.seq_stands.specs.Standing.{Stands}
 use Rattle.seq_stands.proofs.Serviced.{copied_out, all_equal}
-use Rattle.seq_blocks.specs.Works.{Committed}
-use Rattle.seq_blocks.specs.Left.{IsLeft}
-use Rattle.seq_blocks.specs.Standing.{AreBlocks, BlocksStand}
-use Rattle.seq_blocks.specs.Service.{ComeFrom, with_copies}
-use Rattle.seq_blocks.proofs.Copies.{either_block}
-use Rattle.seq_blocks.proofs.Service.{service_keeps_blocks}
+use Rattle.seq_invariant.specs.BlockWorks.{Committed}
+use Rattle.seq_invariant.specs.BlockLeft.{IsLeft}
+use Rattle.seq_invariant.specs.BlockStanding.{AreBlocks, BlocksStand}
+use Rattle.seq_invariant.specs.BlockService.{ComeFrom, with_copies}
+use Rattle.seq_invariant.proofs.BlockCopies.{either_block}
+use Rattle.seq_invariant.proofs.BlockService.{service_keeps_blocks}
 use Rattle.seq_lines.proofs.UnitsCopied.{blocks_kept, other_memory}
 use Rattle.seq_invariant.proofs.Left.{deserted_word, left_all}
 

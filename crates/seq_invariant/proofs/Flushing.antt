@@ -18,7 +18,7 @@ use Rattle.seq_stands.specs.Words.{IsRecovery}
 use Rattle.seq_stands.specs.Hands.{IsFlushAt}
 use Rattle.seq_stands.proofs.Flushes.{follows_grip}
 use Rattle.seq_stands.proofs.LockTurns.{only_block, only_status}
-use Rattle.seq_blocks.specs.Areas.{hand_area}
+use Rattle.seq_invariant.specs.BlockAreas.{hand_area}
 use Rattle.seq_invariant.proofs.Kept.{LeavesNames, IsQuiet, word_quiet, only_names}
 use Rattle.seq_invariant.proofs.Tame.{IsTame}
 

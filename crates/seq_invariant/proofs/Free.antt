@@ -15,16 +15,16 @@ use Rattle.seq_stands.specs.Locks.{lock_view, NamesOwner, LockClaims, LocksStand
 use Rattle.seq_stands.specs.Locks.Hold.{Whole}
 use Rattle.seq_stands.specs.Locks.LockGrip.{With}
 use Rattle.seq_stands.proofs.Gripped.{Firm}
-use Rattle.seq_blocks.specs.Apart.{owners_of}
-use Rattle.seq_blocks.specs.Areas.{hand_area, segments_of}
-use Rattle.seq_blocks.specs.Works.{Committed}
-use Rattle.seq_blocks.specs.Left.{IsLeft}
-use Rattle.seq_blocks.specs.Standing.{IsInHand, IsInLeft, BlocksStand}
-use Rattle.seq_blocks.specs.Turns.{CanBeTakenUp}
-use Rattle.seq_blocks.proofs.Apart.{Has, has, lock_claims, lock_of, inside, one_owner, owner_named}
-use Rattle.seq_blocks.proofs.Frame.{left_there}
-use Rattle.seq_blocks.proofs.Rest.{free_areas_hold}
-use Rattle.seq_joined.proofs.Joined.{below_lines}
+use Rattle.seq_invariant.specs.BlockApart.{owners_of}
+use Rattle.seq_invariant.specs.BlockAreas.{hand_area, segments_of}
+use Rattle.seq_invariant.specs.BlockWorks.{Committed}
+use Rattle.seq_invariant.specs.BlockLeft.{IsLeft}
+use Rattle.seq_invariant.specs.BlockStanding.{IsInHand, IsInLeft, BlocksStand}
+use Rattle.seq_invariant.specs.BlockTurns.{CanBeTakenUp}
+use Rattle.seq_invariant.proofs.BlockApart.{Has, has, lock_claims, lock_of, inside, one_owner, owner_named}
+use Rattle.seq_invariant.proofs.BlockFrame.{left_there}
+use Rattle.seq_invariant.proofs.BlockRest.{free_areas_hold}
+use Rattle.seq_invariant.proofs.BlockLines.{below_lines}
 use Rattle.seq_invariant.proofs.Apart.{named_primary}
 
 module _ (d : MachineDesc) (at : Committed) (m : Machine) (described : IsDescription d) (stands : Stands d m) (locks : LocksStand d (owners_of at.state) m) (blocks : BlocksStand d at m) (q : ℕ) (there : q < length d.processes)

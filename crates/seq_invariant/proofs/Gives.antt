@@ -2,7 +2,7 @@
 use Rattle.std.proofs.Common.{◌≡◌, Some, subst}
 use Rattle.seq_flat.specs.Run.{flat_run}
 use Rattle.seq_turns.specs.Events.{run}
-use Rattle.seq_joined.proofs.After.{sent_is_right_after, sent_is_right_on, settled_is_done_after}
+use Rattle.seq_invariant.proofs.JoinedAfter.{sent_is_right_after, sent_is_right_on, settled_is_done_after}
 use Rattle.seq_invariant.specs.Gives.{CommittedIsFlatRun, SentIsRight, SentIsRightOn, RunsSendRight, SettledIsDone, at_first}
 use Rattle.seq_invariant.proofs.Joined.{stands_after}
 use Rattle.seq_invariant.proofs.Start.{runs_hold}

@@ -29,13 +29,13 @@ use Rattle.seq_stands.specs.Locks.LockGrip.{With}
 use Rattle.seq_stands.proofs.Gripped.{Firm, firm_acquiring, named_firm, same_holder}
 use Rattle.seq_stands.proofs.LockPlaces.{lock_here}
 use Rattle.seq_stands.proofs.Seeks.{free_from}
-use Rattle.seq_blocks.specs.Apart.{number_of, owners_of}
-use Rattle.seq_blocks.specs.Areas.{is_whole, segments_of, Rests}
-use Rattle.seq_blocks.specs.Works.{Committed, committed_blocks}
-use Rattle.seq_blocks.specs.Left.{IsLeft}
-use Rattle.seq_blocks.specs.Standing.{IsInHand, IsInLeft, ExtentStands, BlocksStand}
-use Rattle.seq_blocks.proofs.Apart.{Has, has, lock_claims, lock_of, inside}
-use Rattle.seq_blocks.proofs.Frame.{left_there}
+use Rattle.seq_invariant.specs.BlockApart.{number_of, owners_of}
+use Rattle.seq_invariant.specs.BlockAreas.{is_whole, segments_of, Rests}
+use Rattle.seq_invariant.specs.BlockWorks.{Committed, committed_blocks}
+use Rattle.seq_invariant.specs.BlockLeft.{IsLeft}
+use Rattle.seq_invariant.specs.BlockStanding.{IsInHand, IsInLeft, ExtentStands, BlocksStand}
+use Rattle.seq_invariant.proofs.BlockApart.{Has, has, lock_claims, lock_of, inside}
+use Rattle.seq_invariant.proofs.BlockFrame.{left_there}
 use Rattle.seq_invariant.proofs.Left.{gripped_is_kept}
 use Rattle.seq_invariant.proofs.Apart.{named_primary}
 use Rattle.seq_invariant.proofs.Tame.{not_recovering}

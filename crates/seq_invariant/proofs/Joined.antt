@@ -14,19 +14,19 @@ use Rattle.seq_turns.specs.Allowed.{Allowed}
 use Rattle.seq_turns.specs.Events.{happens, is_check}
 use Rattle.seq_stands.specs.Locks.{LocksStand}
 use Rattle.seq_stands.proofs.Law.{events_keep}
-use Rattle.seq_locks_stand.specs.Owners.{owners_made}
-use Rattle.seq_locks_stand.proofs.Law.{events_keep_locks}
-use Rattle.seq_fits.proofs.Standing.{events_keep_fits}
-use Rattle.seq_blocks.specs.Apart.{owners_of}
-use Rattle.seq_blocks.specs.Works.{Committed}
-use Rattle.seq_blocks.specs.Standing.{BlocksStand}
-use Rattle.seq_blocks.specs.Inputs.{with_inputs}
+use Rattle.seq_stands.specs.LockOwners.{owners_made}
+use Rattle.seq_stands.proofs.LockLaw.{events_keep_locks}
+use Rattle.seq_stands.proofs.FitStanding.{events_keep_fits}
+use Rattle.seq_invariant.specs.BlockApart.{owners_of}
+use Rattle.seq_invariant.specs.BlockWorks.{Committed}
+use Rattle.seq_invariant.specs.BlockStanding.{BlocksStand}
+use Rattle.seq_invariant.specs.BlockInputs.{with_inputs}
 use Rattle.seq_lines.specs.Arrivals.{arrived}
 use Rattle.seq_lines.specs.Lines.{LinesStand}
 use Rattle.seq_lines.proofs.Gives.{arrived_fits}
-use Rattle.seq_joined.specs.Kept.{StandsAfter}
-use Rattle.seq_joined.proofs.Kept.{more, history_runs_on, lines_stand_on}
-use Rattle.seq_joined.proofs.After.{inside_stands_on}
+use Rattle.seq_invariant.specs.JoinedKept.{StandsAfter}
+use Rattle.seq_invariant.proofs.JoinedKept.{more, history_runs_on, lines_stand_on}
+use Rattle.seq_invariant.proofs.JoinedAfter.{inside_stands_on}
 use Rattle.seq_invariant.specs.Holds.{Holds, AllHolds}
 use Rattle.seq_invariant.proofs.Same.{inputs_grow}
 use Rattle.seq_invariant.proofs.Takes.{takes_locks, takes_bounds}

@@ -16,8 +16,8 @@ use Rattle.seq_turns.specs.Recoveries.{names}
 use Rattle.seq_turns.proofs.Functions.{update_same, update_other, copy_same, copy_other, copy_elsewhere}
 use Rattle.seq_stands.proofs.Changes.{LeavesOthers, leaves_others, lock_leaves}
 use Rattle.seq_stands.proofs.LockTurns.{OnlyOf}
-use Rattle.seq_blocks.specs.Left.{way_of, HasToCopy, IsDeserted, IsRecovered, IsLeft}
-use Rattle.seq_blocks.specs.Frame.{IsWithin, KeepsLeft}
+use Rattle.seq_invariant.specs.BlockLeft.{way_of, HasToCopy, IsDeserted, IsRecovered, IsLeft}
+use Rattle.seq_invariant.specs.BlockFrame.{IsWithin, KeepsLeft}
 
 -- A change leaves the status words of all processes but q, and whom lock words name, but for q.
 pub record LeavesNames (d : MachineDesc) (p : Copies) (q : ℕ) (change : Change) : Type 0 where

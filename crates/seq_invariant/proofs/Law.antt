@@ -26,15 +26,15 @@ use Rattle.seq_stands.proofs.Law.{events_keep}
 use Rattle.seq_stands.proofs.Moved.{all_in}
 use Rattle.seq_stands.proofs.Others.{none_of}
 use Rattle.seq_stands.proofs.Readings.{deserted_is}
-use Rattle.seq_fits.proofs.Standing.{events_keep_fits}
-use Rattle.seq_blocks.specs.Apart.{owners_of}
-use Rattle.seq_blocks.specs.Works.{Committed}
-use Rattle.seq_blocks.specs.Standing.{BlocksStand}
-use Rattle.seq_blocks.specs.Frame.{IsAmidPass}
-use Rattle.seq_locks_stand.specs.Owners.{owners_made}
-use Rattle.seq_blocks.proofs.Stops.{stops_keep_blocks}
+use Rattle.seq_stands.proofs.FitStanding.{events_keep_fits}
+use Rattle.seq_invariant.specs.BlockApart.{owners_of}
+use Rattle.seq_invariant.specs.BlockWorks.{Committed}
+use Rattle.seq_invariant.specs.BlockStanding.{BlocksStand}
+use Rattle.seq_invariant.specs.BlockFrame.{IsAmidPass}
+use Rattle.seq_stands.specs.LockOwners.{owners_made}
+use Rattle.seq_invariant.proofs.BlockStops.{stops_keep_blocks}
 use Rattle.seq_lines.specs.Arrivals.{arrived}
-use Rattle.seq_joined.proofs.IoBlocks.{io_keeps_blocks}
+use Rattle.seq_invariant.proofs.IoBlocks.{io_keeps_blocks}
 use Rattle.seq_invariant.specs.Holds.{Holds, AllHolds, EventsKeepAll, RunsKeepAll}
 use Rattle.seq_invariant.proofs.Takes.{takes_bounds}
 use Rattle.seq_invariant.proofs.Same.{blocks_same}

@@ -48,13 +48,13 @@ use Rattle.seq_stands.proofs.LockTurns.{only_unchanged, only_status}
 use Rattle.seq_stands.proofs.Local.{Named}
 use Rattle.seq_stands.proofs.Numbers.{word_taken}
 use Rattle.seq_stands.proofs.Readings.{idle_is_free}
-use Rattle.seq_blocks.specs.Apart.{owners_of}
-use Rattle.seq_blocks.specs.Works.{Committed}
-use Rattle.seq_blocks.specs.Left as left
-use Rattle.seq_blocks.specs.Left.{IsLeft}
-use Rattle.seq_blocks.specs.Frame.{IsAmidPass}
-use Rattle.seq_blocks.specs.Turns.{AfterMove}
-use Rattle.seq_blocks.proofs.Turns.{releases_keep, claims_keep}
+use Rattle.seq_invariant.specs.BlockApart.{owners_of}
+use Rattle.seq_invariant.specs.BlockWorks.{Committed}
+use Rattle.seq_invariant.specs.BlockLeft as left
+use Rattle.seq_invariant.specs.BlockLeft.{IsLeft}
+use Rattle.seq_invariant.specs.BlockFrame.{IsAmidPass}
+use Rattle.seq_invariant.specs.BlockTurns.{AfterMove}
+use Rattle.seq_invariant.proofs.BlockTurns.{releases_keep, claims_keep}
 use Rattle.seq_lines.specs.Inside.{HandIsInside, IsMask}
 use Rattle.seq_invariant.specs.Holds.{Holds}
 use Rattle.seq_invariant.proofs.Left.{has_to, deserted_word, gripped_is_alive, gripped_is_kept}

@@ -13,8 +13,8 @@ use Rattle.seq_stands.proofs.Numbers.{same_processor, same_incarnation}
 use Rattle.seq_stands.proofs.Local.{Named}
 use Rattle.seq_stands.proofs.Readings.{deserted_is}
 use Rattle.seq_stands.proofs.Gripped.{process_of, named_at, same_holder, all_recovered, named_recovered}
-use Rattle.seq_blocks.specs.Left as left
-use Rattle.seq_blocks.specs.Left.{HasToCopy, IsLeft}
+use Rattle.seq_invariant.specs.BlockLeft as left
+use Rattle.seq_invariant.specs.BlockLeft.{HasToCopy, IsLeft}
 
 -- a recovery that has still to copy is of this process
 pub has_to : (x : RecoveryAt) (q : ℕ) (forward : Bool) → HasToCopy x q forward → process_of x ≡ q

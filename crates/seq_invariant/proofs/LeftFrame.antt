@@ -12,14 +12,14 @@ use Rattle.seq_turns.specs.declared.recovery.RecoveryAt.TheVariants as recovery
 use Rattle.seq_turns.specs.Machines.{Machine, Move, copies_after, after_move}
 use Rattle.seq_turns.specs.Recoveries.{names, recovered_blocks}
 use Rattle.seq_turns.proofs.Functions.{update_same, update_other, update_cases}
-use Rattle.seq_blocks.specs.Areas.{hand_area, left_area}
-use Rattle.seq_blocks.specs.Works.{Committed, committed_blocks}
-use Rattle.seq_blocks.specs.Hands.{IsSame, RecoveryKnows, HandKnows}
-use Rattle.seq_blocks.specs.Left.{HasToCopy, IsLeft, LeftKnows}
-use Rattle.seq_blocks.specs.Standing.{AreBlocks, ExtentStands, BlocksStand}
-use Rattle.seq_blocks.proofs.Copies.{holds_kept, holds_less}
-use Rattle.seq_blocks.proofs.Frame.{recovered_inside, recovered_same, left_same, left_there}
-use Rattle.seq_blocks.proofs.Stays.{hand_kept}
+use Rattle.seq_invariant.specs.BlockAreas.{hand_area, left_area}
+use Rattle.seq_invariant.specs.BlockWorks.{Committed, committed_blocks}
+use Rattle.seq_invariant.specs.BlockHands.{IsSame, RecoveryKnows, HandKnows}
+use Rattle.seq_invariant.specs.BlockLeft.{HasToCopy, IsLeft, LeftKnows}
+use Rattle.seq_invariant.specs.BlockStanding.{AreBlocks, ExtentStands, BlocksStand}
+use Rattle.seq_invariant.proofs.BlockCopies.{holds_kept, holds_less}
+use Rattle.seq_invariant.proofs.BlockFrame.{recovered_inside, recovered_same, left_same, left_there}
+use Rattle.seq_invariant.proofs.BlockStays.{hand_kept}
 use Rattle.seq_invariant.proofs.Moved.{same_committed}
 
 -- What is known of such a move, by which process q is recovered: it changes blocks of some extents alone, that are those of no other

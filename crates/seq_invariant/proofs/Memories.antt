@@ -25,14 +25,14 @@ use Rattle.seq_stands.proofs.Gripped.{all_recovered}
 use Rattle.seq_stands.proofs.Others.{none_of}
 use Rattle.seq_stands.proofs.Readings.{recovered_says}
 use Rattle.seq_stands.proofs.Seeks.{way_is}
-use Rattle.seq_blocks.specs.Areas.{hand_area}
-use Rattle.seq_blocks.specs.Works.{Committed}
-use Rattle.seq_blocks.specs.Hands.{RecoveryKnows, HandKnows}
-use Rattle.seq_blocks.specs.Left.{HasToCopy, IsLeft}
-use Rattle.seq_blocks.specs.Standing.{ExtentStands, BlocksStand}
-use Rattle.seq_blocks.specs.Stops.{with_loss}
-use Rattle.seq_blocks.proofs.Losses.{losses_keep_blocks}
-use Rattle.seq_blocks.proofs.Stays.{hand_kept}
+use Rattle.seq_invariant.specs.BlockAreas.{hand_area}
+use Rattle.seq_invariant.specs.BlockWorks.{Committed}
+use Rattle.seq_invariant.specs.BlockHands.{RecoveryKnows, HandKnows}
+use Rattle.seq_invariant.specs.BlockLeft.{HasToCopy, IsLeft}
+use Rattle.seq_invariant.specs.BlockStanding.{ExtentStands, BlocksStand}
+use Rattle.seq_invariant.specs.BlockStops.{with_loss}
+use Rattle.seq_invariant.proofs.BlockLosses.{losses_keep_blocks}
+use Rattle.seq_invariant.proofs.BlockStays.{hand_kept}
 use Rattle.seq_invariant.proofs.Copied.{none_left_out}
 
 module _ (d : MachineDesc) (m : Machine) (st : WordsStand (words_of d m)) where

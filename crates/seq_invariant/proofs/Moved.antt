@@ -9,14 +9,14 @@ use Rattle.seq_turns.specs.Machines.{Machine, Move, Turn, history_after, copies_
 use Rattle.seq_turns.specs.Machines.Turn.{Moves}
 use Rattle.seq_turns.specs.Events.{after_turn}
 use Rattle.seq_stands.specs.Locks.{held_in, owners_with, owners_after}
-use Rattle.seq_blocks.specs.Apart.{owners_of}
-use Rattle.seq_blocks.specs.Areas.{hand_area, Rests}
-use Rattle.seq_blocks.specs.Works.{Committed, committed_blocks}
-use Rattle.seq_blocks.specs.Standing.{IsCommitted, BlocksStand}
-use Rattle.seq_blocks.specs.Frame.{IsWithin, IsApart, KeepsLeft, IsAmidPass}
-use Rattle.seq_blocks.specs.Turns.{AfterMove}
-use Rattle.seq_blocks.proofs.Frame.{moves_keep_blocks}
-use Rattle.seq_blocks.proofs.Inside.{extents_rest}
+use Rattle.seq_invariant.specs.BlockApart.{owners_of}
+use Rattle.seq_invariant.specs.BlockAreas.{hand_area, Rests}
+use Rattle.seq_invariant.specs.BlockWorks.{Committed, committed_blocks}
+use Rattle.seq_invariant.specs.BlockStanding.{IsCommitted, BlocksStand}
+use Rattle.seq_invariant.specs.BlockFrame.{IsWithin, IsApart, KeepsLeft, IsAmidPass}
+use Rattle.seq_invariant.specs.BlockTurns.{AfterMove}
+use Rattle.seq_invariant.proofs.BlockFrame.{moves_keep_blocks}
+use Rattle.seq_invariant.proofs.BlockInside.{extents_rest}
 use Rattle.seq_invariant.proofs.Kept.{IsQuiet}
 
 -- What stands of the blocks after a turn: over what is committed then, with the same input, and with the owners that the turn made.

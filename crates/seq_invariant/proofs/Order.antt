@@ -25,8 +25,8 @@ use Rattle.seq_stands.specs.Locks.{ContextOwns, held_in, owners_after}
 use Rattle.seq_stands.proofs.Gripped.{all_recovered, named_recovered}
 use Rattle.seq_stands.proofs.LockCommit.{others_apart}
 use Rattle.seq_stands.proofs.LockPlaces.{no_owner}
-use Rattle.seq_fits.specs.Fit.{ClearsInOrder}
-use Rattle.seq_blocks.specs.Apart.{owners_of}
+use Rattle.seq_stands.specs.Fit.{ClearsInOrder}
+use Rattle.seq_invariant.specs.BlockApart.{owners_of}
 use Rattle.seq_invariant.specs.Holds.{AllHolds}
 use Rattle.seq_invariant.proofs.Takes.{takes_locks}
 use Rattle.seq_invariant.proofs.Spared.{TurnSpares, turned, cleared}

@@ -29,13 +29,13 @@ use Rattle.seq_stands.specs.Locks.{whole_if, half_if, is_lock, lock_view, LockCl
 use Rattle.seq_stands.specs.Locks.Hold.{Whole}
 use Rattle.seq_stands.specs.Locks.LockGrip.{With}
 use Rattle.seq_stands.proofs.Gripped.{Firm, firm_running, firm_acquiring, firm_flushing, firm_unlocking}
-use Rattle.seq_blocks.specs.Apart.{owners_of}
-use Rattle.seq_blocks.specs.Areas.{is_whole, segments_of}
-use Rattle.seq_blocks.specs.Works.{Committed}
-use Rattle.seq_blocks.specs.Hands.{FlushKnows, HandKnows}
-use Rattle.seq_blocks.proofs.Apart.{lock_claims, lock_of, one_owner, owner_named}
+use Rattle.seq_invariant.specs.BlockApart.{owners_of}
+use Rattle.seq_invariant.specs.BlockAreas.{is_whole, segments_of}
+use Rattle.seq_invariant.specs.BlockWorks.{Committed}
+use Rattle.seq_invariant.specs.BlockHands.{FlushKnows, HandKnows}
+use Rattle.seq_invariant.proofs.BlockApart.{lock_claims, lock_of, one_owner, owner_named}
 use Rattle.seq_lines.specs.Arrivals.{arrived}
-use Rattle.seq_fits.specs.Hands.{HandFits}
+use Rattle.seq_stands.specs.FitHands.{HandFits}
 use Rattle.seq_invariant.specs.Holds.{Holds}
 use Rattle.seq_invariant.specs.Orders.{running_in, is_process, runner, steps_in, steps_by, uncommitted, with_steps, StepsInAnyOrder}
 use Rattle.seq_invariant.proofs.Gives.{committed_is_flat_run}

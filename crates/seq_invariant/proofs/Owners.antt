@@ -12,8 +12,8 @@ use Rattle.seq_process.specs.declared.running.Running.{Running}
 use Rattle.seq_cache.specs.Changes.{Changes}
 use Rattle.seq_runs.proofs.Ahead.{many_steps_are_local}
 use Rattle.seq_stands.specs.Locks.{committed_owner}
-use Rattle.seq_blocks.specs.Apart.{number_of, owners_of}
-use Rattle.seq_blocks.specs.Works.{Committed, Works, Commits}
+use Rattle.seq_invariant.specs.BlockApart.{number_of, owners_of}
+use Rattle.seq_invariant.specs.BlockWorks.{Committed, Works, Commits}
 
 -- from an owner to the next one, by the steps of process q
 owner_next : (q : ℕ) (g f : Option Pid) (inside : Bool) → ((x : ℕ) → x ≢ q → is_owner x g ≡ true → is_owner x f ≡ true) → (inside ≡ false → g ≡ f) → ((x : ℕ) → x ≢ q → is_owner x f ≡ true → inside ≡ false) →

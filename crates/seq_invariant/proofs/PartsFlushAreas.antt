@@ -18,10 +18,10 @@ use Rattle.seq_stands.specs.Words.{ruling}
 use Rattle.seq_stands.specs.Locks.{Hold, lock_view, lock_grip, HandLocks, LockRuled}
 use Rattle.seq_stands.specs.Locks.LockGrip.{With}
 use Rattle.seq_stands.proofs.Gripped.{Firm, firm_flushing, firm_of, named_firm, same_holder}
-use Rattle.seq_blocks.specs.Apart.{owners_of}
-use Rattle.seq_blocks.specs.Areas.{segments_of}
-use Rattle.seq_blocks.specs.Works.{Committed}
-use Rattle.seq_blocks.proofs.Apart.{inside}
+use Rattle.seq_invariant.specs.BlockApart.{owners_of}
+use Rattle.seq_invariant.specs.BlockAreas.{segments_of}
+use Rattle.seq_invariant.specs.BlockWorks.{Committed}
+use Rattle.seq_invariant.proofs.BlockApart.{inside}
 use Rattle.seq_invariant.specs.Holds.{Holds}
 use Rattle.seq_invariant.specs.Processes.{lock}
 use Rattle.seq_invariant.specs.AreasHold.{area_of, flush_area}

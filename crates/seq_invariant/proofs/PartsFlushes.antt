@@ -15,7 +15,7 @@ use Rattle.seq_flush.specs.declared.stages.Mark.{Mark}
 use Rattle.seq_flush.specs.declared.stages.First.{First}
 use Rattle.seq_flush.specs.declared.stages.Second.{Second}
 use Rattle.seq_flush.specs.declared.stages.Close.{Close}
-use Rattle.seq_flush.specs.Turns.{units}
+use Rattle.seq_flush.specs.Turns.{units, unit_at}
 use Rattle.seq_kernel.specs.Views.{Blocks}
 use Rattle.seq_kernel.specs.declared.outcomes.Cause.{Cause}
 use Rattle.seq_image.specs.Images.{image}
@@ -25,9 +25,10 @@ use Rattle.seq_turns.specs.declared.hand.FlushAt.{FlushAt}
 use Rattle.seq_turns.specs.declared.hand.FlushAt.TheVariants as flush
 use Rattle.seq_turns.specs.Machines.{Machine}
 use Rattle.seq_stands.specs.Locks.{whole_if}
-use Rattle.seq_blocks.specs.Areas.{is_whole, segments_of, BothHold}
-use Rattle.seq_blocks.specs.Works.{Committed, committed_blocks, with_commit, one_more}
-use Rattle.seq_blocks.specs.Hands.{FlushKnows, FirstPass, SecondPass, HandKnows}
+use Rattle.seq_invariant.specs.BlockAreas.{is_whole, segments_of, BothHold}
+use Rattle.seq_invariant.specs.BlockWorks.{Committed, committed_blocks, with_commit, one_more}
+use Rattle.seq_invariant.specs.BlockHands.{FlushKnows, FirstPass, SecondPass, HandKnows}
+use Rattle.seq_invariant.proofs.Units.{unit_committed}
 use Rattle.seq_lines.specs.Arrivals.{arrived}
 use Rattle.seq_invariant.specs.Holds.{Holds}
 use Rattle.seq_invariant.specs.AreasHold.{commits_in, kept, kept_next, flush_area, Rests, FirstPassIn, SecondPassIn, FirstPassHoldsAlways, SecondPassHoldsAlways}
@@ -83,6 +84,7 @@ module _ (d : MachineDesc) (events : List Event) (at : Committed) (m : Machine) 
           steps = subst (λ i. steps d i r.pid.0 r.steps at.state ≡ Some k.works.ahead.state) st.input k.works.ahead.steps;
           shadows = λ e n is up. k.shadows.each e n (and_both (in_area d r.pid.0 (segments (flush.First x)) e) (serves (shape_of d) m.copies e true) (inside (flush.First x) e is) up) ∙ kept_at e n;
           units = λ i before below up. written_hold d m.copies false r.pid.0 (segments (flush.First x)) (units x (m.cache p).changes) x.cursor _ k.primaries k.make.units i before below up ∙ next_at r.pid.0 k.works.ahead.state _ _;
+          to_come = λ i past below up. k.to_come.each i past below up ∙ kept_at (unit_at (units x (m.cache p).changes) i).extent.0 (unit_at (units x (m.cache p).changes) i).place;
           others = λ e n is up none.
               others_hold d m.copies false r.pid.0 (segments (flush.First x)) (units x (m.cache p).changes) x.cursor _ k.primaries e n (inside (flush.First x) e is) up none
               ∙ sym (k.make.blocks.each e n (inside (flush.First x) e is)) ∙ ap (λ (o : Option Block). unwrap_or o (committed_blocks d at e n)) none ∙ kept_at e n;
@@ -93,6 +95,7 @@ module _ (d : MachineDesc) (events : List Event) (at : Committed) (m : Machine) 
       where
         told : SecondPass d at (segments (flush.Second x)) m.copies (m.cache p) r (units x (m.cache p).changes) x.cursor → SecondPassIn d at.state m r mask (units x (m.cache p).changes) (x.cursor - 1)
         told k = record {
+          cached = λ i below. unit_committed d at r.pid.0 (segments (flush.Second x)) (units x (m.cache p).changes) k.units k.cached i below ∙ kept_at (unit_at (units x (m.cache p).changes) i).extent.0 (unit_at (units x (m.cache p).changes) i).place;
           primaries = λ e n is up. k.primaries.each e n (and_both (in_area d r.pid.0 (segments (flush.Second x)) e) (serves (shape_of d) m.copies e false) (inside (flush.Second x) e is) up) ∙ kept_at e n;
           units = λ i before below up. written_hold d m.copies true r.pid.0 (segments (flush.Second x)) (units x (m.cache p).changes) (x.cursor - 1) _ k.shadows k.units i before below up ∙ kept_at _ _;
           others = λ e n is up none. others_hold d m.copies true r.pid.0 (segments (flush.Second x)) (units x (m.cache p).changes) (x.cursor - 1) _ k.shadows e n (inside (flush.Second x) e is) up none ∙ kept_at e n;

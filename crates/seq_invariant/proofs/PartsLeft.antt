@@ -31,15 +31,15 @@ use Rattle.seq_stands.specs.Hands.{holder_is}
 use Rattle.seq_stands.proofs.Gripped.{all_recovered}
 use Rattle.seq_stands.proofs.Plain.{one_out_none_awaits}
 use Rattle.seq_stands.proofs.Readings.{said, says_held, deserted_is}
-use Rattle.seq_blocks.specs.Apart.{owners_of}
-use Rattle.seq_blocks.specs.Areas.{segments_of, hand_area, left_area}
-use Rattle.seq_blocks.specs.Works.{Committed}
-use Rattle.seq_blocks.specs.Hands.{IsSame, CopiedBehind, HandKnows}
-use Rattle.seq_blocks.specs.Left.{way_of, HasToCopy, IsLeft}
-use Rattle.seq_blocks.specs.Standing.{IsInHand, IsInLeft, ExtentStands}
-use Rattle.seq_blocks.proofs.Apart.{Has, has, inside, on_one}
-use Rattle.seq_blocks.proofs.Frame.{left_there, recovered_inside}
-use Rattle.seq_joined.proofs.Joined.{below_lines}
+use Rattle.seq_invariant.specs.BlockApart.{owners_of}
+use Rattle.seq_invariant.specs.BlockAreas.{segments_of, hand_area, left_area}
+use Rattle.seq_invariant.specs.BlockWorks.{Committed}
+use Rattle.seq_invariant.specs.BlockHands.{IsSame, CopiedBehind, HandKnows}
+use Rattle.seq_invariant.specs.BlockLeft.{way_of, HasToCopy, IsLeft}
+use Rattle.seq_invariant.specs.BlockStanding.{IsInHand, IsInLeft, ExtentStands}
+use Rattle.seq_invariant.proofs.BlockApart.{Has, has, inside, on_one}
+use Rattle.seq_invariant.proofs.BlockFrame.{left_there, recovered_inside}
+use Rattle.seq_invariant.proofs.BlockLines.{below_lines}
 use Rattle.seq_invariant.specs.Holds.{Holds}
 use Rattle.seq_invariant.specs.Processes.{lock, Awaits}
 use Rattle.seq_invariant.specs.AreasHold.{kept, area_of, Rests}

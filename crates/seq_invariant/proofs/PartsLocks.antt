@@ -29,10 +29,10 @@ use Rattle.seq_stands.proofs.Gripped.{all_recovered}
 use Rattle.seq_stands.proofs.LockPlaces.{lock_elsewhere}
 use Rattle.seq_stands.proofs.Readings.{first_rules, deserted_says, recovered_says}
 use Rattle.seq_stands.proofs.Seeks.{way_is}
-use Rattle.seq_blocks.specs.Apart.{number_of, owners_of}
-use Rattle.seq_blocks.proofs.Apart.{lock_claims}
+use Rattle.seq_invariant.specs.BlockApart.{number_of, owners_of}
+use Rattle.seq_invariant.proofs.BlockApart.{lock_claims}
 use Rattle.seq_invariant.specs.Orders.{running_in}
-use Rattle.seq_invariant.specs.Processes.{lock, lock_copy, HoldsIn, Claims, Releases, IsHeld, IsMoved, Awaits, IsOf, LocksNameAlways}
+use Rattle.seq_invariant.specs.Processes.{lock, lock_copy, HoldsIn, Claims, Releases, SetsOneLock, IsHeld, IsMoved, IsHalfLocked, Awaits, IsOf, LocksNameAlways}
 
 -- a segment that is held is held whole
 whole_held : (b : Bool) (x q : ℕ) → b ≡ true → x ≡ q → whole_if b x ≡ With q Whole
@@ -133,6 +133,31 @@ module _ (d : MachineDesc) (i j q t : ℕ) (hold : Hold) where
       first (inr k) = go (of_whole (has_bit r.held t || has_bit mask t) r.pid.0 q hold k)
   why (hand.Leaving x l) own e = absurd (let c : ⊥ = cc in c)
   why (hand.Recovering x) own e = absurd (let c : ⊥ = cc in c)
+
+-- a lock that is held by half is being claimed or released
+module _ (d : MachineDesc) (i j q t : ℕ) where
+  not_half : (b : Bool) (x : ℕ) → whole_if b x ≡ With q Half → ⊥
+  not_half b x e = let same : Half ≡ Whole = (of_whole b x q Half e).0 in let c : ⊥ = cc in c
+
+  pub half_sets : (h : Hand) → IsHand d i j h → lock_grip d h t ≡ With q Half → SetsOneLock d h q t
+  half_sets hand.Down own e = absurd (let c : ⊥ = cc in c)
+  half_sets hand.Seek own e = absurd (let c : ⊥ = cc in c)
+  half_sets (hand.Claiming x c) own e = absurd (let c : ⊥ = cc in c)
+  half_sets (hand.Running r) own e = absurd (not_half (has_bit r.held t) r.pid.0 e)
+  half_sets (hand.Acquiring r s c) own e = go (of_half (is_lock d t c.at) r.pid.0 q (whole_if (has_bit r.held t) r.pid.0) Half e)
+    where
+      go : ((r.pid.0 ≡ q) × (is_lock d t c.at ≡ true)) ⊎ (whole_if (has_bit r.held t) r.pid.0 ≡ With q Half) → SetsOneLock d (hand.Acquiring r s c) q t
+      go (inl k) = (k.0, lock_is d s.0 t c.at own.place k.1)
+      go (inr k) = absurd (not_half (has_bit r.held t) r.pid.0 k)
+  half_sets (hand.Flushing r cause mask f) own e = absurd (not_half (has_bit r.held t || has_bit mask t) r.pid.0 e)
+  half_sets (hand.Unlocking r cause mask (release.Shadow l)) own e = absurd (not_half (has_bit r.held t || has_bit mask t) r.pid.0 e)
+  half_sets (hand.Unlocking r cause mask (release.Primary l)) own e = go (of_half (is_lock d t l.at) r.pid.0 q (whole_if (has_bit r.held t || has_bit mask t) r.pid.0) Half e)
+    where
+      go : ((r.pid.0 ≡ q) × (is_lock d t l.at ≡ true)) ⊎ (whole_if (has_bit r.held t || has_bit mask t) r.pid.0 ≡ With q Half) → SetsOneLock d (hand.Unlocking r cause mask (release.Primary l)) q t
+      go (inl k) = (k.0, own.place ∙ ap (lock_word d) (lock_is d own.segment t l.at own.place k.1))
+      go (inr k) = absurd (not_half (has_bit r.held t || has_bit mask t) r.pid.0 k)
+  half_sets (hand.Leaving x l) own e = absurd (let c : ⊥ = cc in c)
+  half_sets (hand.Recovering x) own e = absurd (let c : ⊥ = cc in c)
 
 -- who is left, or recovered, awaits recovery
 either_first : (a b : Bool) → a ≡ true → (a || b) ≡ true
@@ -246,12 +271,11 @@ module _ (d : MachineDesc) (f : FlatState) (m : Machine) (st : Stands d m) (lock
     lock_says x e = first ∙ cond-true _ _ _ one ∙ word1 ∙ e
 
     abbrev Same : ℕ → Type 0
-    Same q = (lock_copy d m t true ≡ suc q) ⊎ ((lock_copy d m t true ≡ 0) × (IsMoved m q t ⊎ Awaits d m q))
+    Same q = (lock_copy d m t true ≡ suc q) ⊎ ((lock_copy d m t true ≡ 0) × (IsHalfLocked d m q t ⊎ Awaits d m q))
 
-    by_hold : (p q : ℕ) (hold : Hold) → Why (m.hand p) q t hold → LockClaims v (With q hold) → Same q
-    by_hold p q Half (inl k) claims = let e : Half ≡ Whole = k.0 in absurd (let c : ⊥ = cc in c)
-    by_hold p q Half (inr k) claims = inr (sym word2 ∙ (claims one).1 two, inl (record { processor = p; moves = k }))
-    by_hold p q Whole k claims = inl (sym word2 ∙ claims.1 two)
+    by_hold : (p q : ℕ) (hold : Hold) → lock_grip d (m.hand p) t ≡ With q hold → LockClaims v (With q hold) → Same q
+    by_hold p q Half e claims = inr (sym word2 ∙ (claims one).1 two, inl (record { processor = p; sets = half_sets d p (m.incarnation p) q t (m.hand p) (st.hands.hands p) e }))
+    by_hold p q Whole e claims = inl (sym word2 ∙ claims.1 two)
 
     by_left : (q : ℕ) → Awaits d m q → (v.word2 ≡ 0) ⊎ (v.word2 ≡ suc q) → Same q
     by_left q a (inl z) = inr (sym word2 ∙ z, inr a)
@@ -261,7 +285,7 @@ module _ (d : MachineDesc) (f : FlatState) (m : Machine) (st : Stands d m) (lock
     same_ruled q is (inl k) = let e : suc q ≡ 0 = sym (lock_says (suc q) is) ∙ first ∙ k.free in absurd (let c : ⊥ = omega (arith, e) in c)
     same_ruled q is (inr (inl k)) =
         let claims : LockClaims v (With k.process k.hold) = subst (LockClaims v) k.gripped (lock_claims d (owners_of f) m.copies (m.hand k.holder) (locks.hands k.holder) t lt) in
-        subst Same (same_process q k.process (lock_says (suc q) is) k.named) (by_hold k.holder k.process k.hold (why_held k) claims)
+        subst Same (same_process q k.process (lock_says (suc q) is) k.named) (by_hold k.holder k.process k.hold k.gripped claims)
     same_ruled q is (inr (inr k)) =
         let named : ruling v ≡ suc k.process = cond-true _ _ _ one ∙ k.first in
         subst Same (same_process q k.process (lock_says (suc q) is) named) (by_left k.process (left_awaits d m st.words k.process k.left) k.second)

@@ -14,7 +14,7 @@ use Rattle.seq_flush.specs.Facts.{all_written, AreApart}
 use Rattle.seq_flush.proofs.Layer.{kept_block, all_states}
 use Rattle.seq_kernel.specs.Views.{Blocks}
 use Rattle.seq_image.specs.Areas.{in_area, CopyHolds}
-use Rattle.seq_blocks.specs.Works.{AreUnits}
+use Rattle.seq_invariant.specs.BlockWorks.{AreUnits}
 
 -- a block that none of the units is of
 pub none_is : (us : List Change) (e n k : ℕ) → changed us e n ≡ None → k < length us → (unit_at us k).extent.0 ≡ e → (unit_at us k).place ≡ n → ⊥

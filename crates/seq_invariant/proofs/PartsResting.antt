@@ -20,15 +20,15 @@ use Rattle.seq_stands.specs.Locks.Hold.{Whole}
 use Rattle.seq_stands.specs.Locks.LockGrip.{With}
 use Rattle.seq_stands.proofs.Gripped.{Firm}
 use Rattle.seq_stands.proofs.Readings.{first_rules}
-use Rattle.seq_blocks.specs.Apart.{owners_of}
-use Rattle.seq_blocks.specs.Areas.{segments_of, hand_area}
-use Rattle.seq_blocks.specs.Works.{Committed}
-use Rattle.seq_blocks.specs.Hands.{HandKnows}
-use Rattle.seq_blocks.specs.Left.{HasToCopy, IsLeft}
-use Rattle.seq_blocks.specs.Standing.{IsInHand, IsInLeft, ExtentStands}
-use Rattle.seq_blocks.proofs.Apart.{Has, has, lock_claims, lock_of, inside, on_one}
-use Rattle.seq_blocks.proofs.Frame.{left_there}
-use Rattle.seq_joined.proofs.Joined.{below_lines}
+use Rattle.seq_invariant.specs.BlockApart.{owners_of}
+use Rattle.seq_invariant.specs.BlockAreas.{segments_of, hand_area}
+use Rattle.seq_invariant.specs.BlockWorks.{Committed}
+use Rattle.seq_invariant.specs.BlockHands.{HandKnows}
+use Rattle.seq_invariant.specs.BlockLeft.{HasToCopy, IsLeft}
+use Rattle.seq_invariant.specs.BlockStanding.{IsInHand, IsInLeft, ExtentStands}
+use Rattle.seq_invariant.proofs.BlockApart.{Has, has, lock_claims, lock_of, inside, on_one}
+use Rattle.seq_invariant.proofs.BlockFrame.{left_there}
+use Rattle.seq_invariant.proofs.BlockLines.{below_lines}
 use Rattle.seq_invariant.specs.Holds.{Holds}
 use Rattle.seq_invariant.specs.Processes.{lock, Awaits}
 use Rattle.seq_invariant.specs.AreasHold.{area_of, Flushes, Rests, RestingAreasHoldAlways}

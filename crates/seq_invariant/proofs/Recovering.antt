@@ -14,13 +14,13 @@ use Rattle.seq_turns.specs.Reading.{ruling, is_deserted}
 use Rattle.seq_turns.specs.Recoveries.{names}
 use Rattle.seq_turns.proofs.Functions.{update_same, update_other}
 use Rattle.seq_stands.proofs.LockTurns.{OnlyOf}
-use Rattle.seq_blocks.specs.Areas.{hand_area, left_area}
-use Rattle.seq_blocks.specs.Works.{Committed, committed_blocks}
-use Rattle.seq_blocks.specs.Hands.{HandKnows}
-use Rattle.seq_blocks.specs.Left.{way_of, HasToCopy, IsLeft, LeftKnows}
-use Rattle.seq_blocks.specs.Standing.{BlocksStand}
-use Rattle.seq_blocks.proofs.Copies.{holds_kept, holds_less}
-use Rattle.seq_blocks.proofs.Frame.{left_same}
+use Rattle.seq_invariant.specs.BlockAreas.{hand_area, left_area}
+use Rattle.seq_invariant.specs.BlockWorks.{Committed, committed_blocks}
+use Rattle.seq_invariant.specs.BlockHands.{HandKnows}
+use Rattle.seq_invariant.specs.BlockLeft.{way_of, HasToCopy, IsLeft, LeftKnows}
+use Rattle.seq_invariant.specs.BlockStanding.{BlocksStand}
+use Rattle.seq_invariant.proofs.BlockCopies.{holds_kept, holds_less}
+use Rattle.seq_invariant.proofs.BlockFrame.{left_same}
 use Rattle.seq_invariant.proofs.Kept.{IsQuiet, ruling_stays}
 use Rattle.seq_invariant.proofs.LeftFrame.{Recovers, recovers_blocks}
 

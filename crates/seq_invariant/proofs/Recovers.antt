@@ -30,17 +30,17 @@ use Rattle.seq_stands.specs.Hands.{IsHand}
 use Rattle.seq_stands.specs.Locks.{held_in, owners_with}
 use Rattle.seq_stands.proofs.Gripped.{process_of, recovery_stage, all_recovered}
 use Rattle.seq_stands.proofs.LockTurns.{OnlyOf, only_unchanged, only_block, only_status}
-use Rattle.seq_blocks.specs.Apart.{owners_of}
-use Rattle.seq_blocks.specs.Areas.{hand_area, left_area, Rests}
-use Rattle.seq_blocks.specs.Works.{Committed, committed_blocks}
-use Rattle.seq_blocks.specs.Hands.{HandKnows}
-use Rattle.seq_blocks.specs.Left.{way_of, HasToCopy, IsLeft, LeftKnows}
-use Rattle.seq_blocks.specs.Recovered.{CopiesOn}
-use Rattle.seq_blocks.specs.Standing.{AreBlocks, ExtentStands, BlocksStand}
-use Rattle.seq_blocks.specs.Stops.{IsFree}
-use Rattle.seq_blocks.proofs.Frame.{recovered_inside, left_inside, left_there}
-use Rattle.seq_blocks.proofs.Recovered.{copies_more, copying_keeps}
-use Rattle.seq_blocks.proofs.Stops.{rest_holds}
+use Rattle.seq_invariant.specs.BlockApart.{owners_of}
+use Rattle.seq_invariant.specs.BlockAreas.{hand_area, left_area, Rests}
+use Rattle.seq_invariant.specs.BlockWorks.{Committed, committed_blocks}
+use Rattle.seq_invariant.specs.BlockHands.{HandKnows}
+use Rattle.seq_invariant.specs.BlockLeft.{way_of, HasToCopy, IsLeft, LeftKnows}
+use Rattle.seq_invariant.specs.BlockRecovered.{CopiesOn}
+use Rattle.seq_invariant.specs.BlockStanding.{AreBlocks, ExtentStands, BlocksStand}
+use Rattle.seq_invariant.specs.BlockStops.{IsFree}
+use Rattle.seq_invariant.proofs.BlockFrame.{recovered_inside, left_inside, left_there}
+use Rattle.seq_invariant.proofs.BlockRecovered.{copies_more, copying_keeps}
+use Rattle.seq_invariant.proofs.BlockStops.{rest_holds}
 use Rattle.seq_invariant.specs.Holds.{Holds}
 use Rattle.seq_invariant.proofs.Left.{has_to, deserted_word, gripped_is_alive, one_grips}
 use Rattle.seq_invariant.proofs.Apart.{is_apart, left_areas_apart, left_is_free}

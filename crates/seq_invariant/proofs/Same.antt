@@ -8,11 +8,11 @@ use Rattle.seq_io.specs.declared.element.IoElement.{IoElement}
 use Rattle.seq_io.specs.declared.element.PortState.{PortState}
 use Rattle.seq_turns.specs.Machines.{Machine}
 use Rattle.seq_flat.proofs.MoreInputs.{input_keeps_runs}
-use Rattle.seq_blocks.specs.Left.{IsLeft}
-use Rattle.seq_blocks.specs.Inputs.{with_inputs}
-use Rattle.seq_blocks.specs.Works.{Committed}
-use Rattle.seq_blocks.specs.Standing.{ExtentStands, BlocksStand}
-use Rattle.seq_blocks.proofs.Inputs.{inputs_keep}
+use Rattle.seq_invariant.specs.BlockLeft.{IsLeft}
+use Rattle.seq_invariant.specs.BlockInputs.{with_inputs}
+use Rattle.seq_invariant.specs.BlockWorks.{Committed}
+use Rattle.seq_invariant.specs.BlockStanding.{ExtentStands, BlocksStand}
+use Rattle.seq_invariant.proofs.BlockInputs.{inputs_keep}
 
 -- the machine with other cursors, I/O elements, ports and lines
 abbrev pub with_lines : Machine → (ℕ → ℕ) → (ℕ → IoElement) → (ℕ → PortState) → (ℕ → List ℕ) → (ℕ → Bool) → Machine

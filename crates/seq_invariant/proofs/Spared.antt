@@ -1,5 +1,5 @@
 -- A turn of a processor that doesn't run a process makes no lock word name it, and takes no segment from it.
-use Rattle.std.proofs.Common.{◌≡◌, ◌≢◌, ℕ, suc, ◌+◌, ◌-◌, ◌/◌, ◌<◌, Bool, true, false, ◌==◌, ◌||◌, nat_le, Option, Some, None, length, slice_get, refl, ap, sym, ◌∙◌, subst, arith}
+use Rattle.std.proofs.Common.{◌≡◌, ◌≢◌, ℕ, suc, ◌-◌, ◌/◌, ◌<◌, Bool, true, false, ◌==◌, ◌||◌, nat_le, Option, Some, None, length, slice_get, refl, ap, sym, ◌∙◌, subst, arith}
 use Rattle.std.proofs.lemmas.Bool.{cond_both, cond-false, true≢false, ne_eqb}
 use Rattle.seq_words.specs.Masks.{has_bit}
 use Rattle.seq_words.specs.declared.description.MachineDesc.{MachineDesc}
@@ -20,9 +20,6 @@ use Rattle.seq_kernel.specs.Steps.{step_of}
 use Rattle.seq_locks.specs.declared.claim.Claim.{Claim}
 use Rattle.seq_locks.specs.declared.stages.Shadow as shadow_stage
 use Rattle.seq_locks.specs.Turns.{is_taken, word_at}
-use Rattle.seq_flush.specs.declared.flush.Flush.{Flush}
-use Rattle.seq_flush.specs.declared.stages.First as first_stage
-use Rattle.seq_flush.specs.Turns.{units, unit_at}
 use Rattle.seq_turns.specs.declared.hand.Hand.{Hand}
 use Rattle.seq_turns.specs.declared.hand.Hand.TheVariants as hand
 use Rattle.seq_turns.specs.declared.hand.FlushAt.{FlushAt}
@@ -34,12 +31,12 @@ use Rattle.seq_turns.specs.declared.recovery.Locks as locks_stage
 use Rattle.seq_turns.specs.declared.recovery.Recovery.{Recovery}
 use Rattle.seq_turns.specs.declared.recovery.RecoveryAt.{RecoveryAt}
 use Rattle.seq_turns.specs.declared.recovery.RecoveryAt.TheVariants as recovery
-use Rattle.seq_turns.specs.Machines.{Machine, Move, Turn, idles}
+use Rattle.seq_turns.specs.Machines.{Machine, Move, Turn}
 use Rattle.seq_turns.specs.Machines.Turn.{Moves, Looks, Copies_unit, Stops}
 use Rattle.seq_turns.specs.Reading.{goes_forward, status_word, lock_word, holder, is_deserted, ruling as status_now, write_word, copied_memory}
 use Rattle.seq_turns.specs.Causes.{agree, finds, released}
-use Rattle.seq_turns.specs.Operations.{claims, acquires, unit_count, first_move, flush_move, unlock_move, leave_move}
-use Rattle.seq_turns.specs.Recoveries.{begins, recovers, recovered_blocks, copied_over, is_shadow, first_left, locks_cleared, claimed_move, recovery_move}
+use Rattle.seq_turns.specs.Operations.{claims, acquires, unit_count, flush_move, unlock_move, leave_move}
+use Rattle.seq_turns.specs.Recoveries.{begins, recovered_blocks, copied_over, is_shadow, first_left, locks_cleared, claimed_move, recovery_move}
 use Rattle.seq_turns.specs.Processors.{is_free, looks, deserted, seeks, acquisition, after_step, runs, someone_amid, copies_or_waits, seeks_or_copies, runs_or_copies, turn}
 use Rattle.seq_turns.proofs.Functions.{lowest_passes}
 use Rattle.seq_stands.specs.Grips.{Stage, grip}
@@ -48,7 +45,7 @@ use Rattle.seq_stands.specs.Words.{words_of, AllUp, GripHolds}
 use Rattle.seq_stands.specs.Hands.{IsFlushAt, IsHand}
 use Rattle.seq_stands.specs.Standing.{Stands}
 use Rattle.seq_stands.specs.Locks.{lock_view, whole_if, LockClaims, held_in, owners_with, committed_owner, HandLocks, LocksStand}
-use Rattle.seq_stands.proofs.Gripped.{Firm, firm_running, firm_acquiring, firm_flushing, firm_unlocking, process_of, recovery_stage}
+use Rattle.seq_stands.proofs.Gripped.{Firm, firm_running, firm_acquiring, firm_flushing, process_of, recovery_stage}
 use Rattle.seq_invariant.proofs.Names.{NamesNoMore, unchanged_names, block_names, status_names, other_names, written_names}
 
 -- what it makes of lock words, and of the owners, with these segments held

@@ -1,7 +1,7 @@
 -- All stands at the start, and so after every list of events from there.
 use Rattle.std.proofs.Common.{◌≡◌, inl, inr, ℕ, [], length, refl, ap, sym, subst, arith}
 use Rattle.std.proofs.Math.Path.{fun_ext}
-use Rattle.std.proofs.lemmas.Bool.{cases_lt, true≢false}
+use Rattle.std.proofs.lemmas.Bool.{cases_lt}
 use Rattle.std.proofs.lemmas.List.{get_or_past, length-map}
 use Rattle.seq_words.specs.Description.{IsDescription}
 use Rattle.seq_words.specs.declared.description.MachineDesc.{MachineDesc}
@@ -13,12 +13,12 @@ use Rattle.seq_turns.specs.Start.{start}
 use Rattle.seq_stands.specs.Standing.{Stands}
 use Rattle.seq_stands.specs.Locks.{LocksStand}
 use Rattle.seq_stands.proofs.AtStart.{start_stands}
-use Rattle.seq_locks_stand.proofs.Law.{start_has_locks}
-use Rattle.seq_fits.proofs.Standing.{start_fits}
-use Rattle.seq_blocks.specs.Apart.{number_of, owners_of}
-use Rattle.seq_blocks.specs.Works.{committed_blocks}
-use Rattle.seq_blocks.specs.Rest.{at_start}
-use Rattle.seq_blocks.proofs.Rest.{start_holds}
+use Rattle.seq_stands.proofs.LockLaw.{start_has_locks}
+use Rattle.seq_stands.proofs.FitStanding.{start_fits}
+use Rattle.seq_invariant.specs.BlockApart.{number_of, owners_of}
+use Rattle.seq_invariant.specs.BlockWorks.{committed_blocks}
+use Rattle.seq_invariant.specs.BlockRest.{at_start}
+use Rattle.seq_invariant.proofs.BlockRest.{start_holds}
 use Rattle.seq_lines.specs.Arrivals.{arrived}
 use Rattle.seq_lines.proofs.Gives.{arrived_fits}
 use Rattle.seq_lines.proofs.Gives as lines

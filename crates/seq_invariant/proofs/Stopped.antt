@@ -34,9 +34,9 @@ use Rattle.seq_stands.specs.Locks.LockGrip.{With}
 use Rattle.seq_stands.proofs.Numbers.{same_kind}
 use Rattle.seq_stands.proofs.Readings.{said, says_free, says_held, deserted_says}
 use Rattle.seq_stands.proofs.Gripped.{Firm, process_of, firm_of, firm_flushing, recovery_stage}
-use Rattle.seq_blocks.specs.Areas.{is_whole, hand_area, left_area, segments_of}
-use Rattle.seq_blocks.specs.Left.{way_of, HasToCopy, IsLeft}
-use Rattle.seq_blocks.specs.Stops.{GoesWay, MayDiffer, IsFree, IsLeftBy, Leaves, IsStop}
+use Rattle.seq_invariant.specs.BlockAreas.{is_whole, hand_area, left_area, segments_of}
+use Rattle.seq_invariant.specs.BlockLeft.{way_of, HasToCopy, IsLeft}
+use Rattle.seq_invariant.specs.BlockStops.{GoesWay, MayDiffer, IsFree, IsLeftBy, Leaves, IsStop}
 use Rattle.seq_invariant.proofs.Left.{has_to, deserted_word, gripped_is_alive, named_all, one_grips}
 use Rattle.seq_invariant.proofs.Apart.{named_primary, whole_named, left_is_free}
 

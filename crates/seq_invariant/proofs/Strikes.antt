@@ -12,12 +12,12 @@ use Rattle.seq_turns.specs.Machines.{Machine}
 use Rattle.seq_turns.specs.Allowed.{MayStrike}
 use Rattle.seq_turns.specs.Events.{strikes, comes_back}
 use Rattle.seq_turns.proofs.Functions.{update_same, update_other}
-use Rattle.seq_blocks.specs.Areas.{hand_area}
-use Rattle.seq_blocks.specs.Works.{Committed}
-use Rattle.seq_blocks.specs.Hands.{HandKnows}
-use Rattle.seq_blocks.specs.Left.{IsLeft}
-use Rattle.seq_blocks.specs.Standing.{ExtentStands, BlocksStand}
-use Rattle.seq_blocks.proofs.Inputs.{strikes_keep}
+use Rattle.seq_invariant.specs.BlockAreas.{hand_area}
+use Rattle.seq_invariant.specs.BlockWorks.{Committed}
+use Rattle.seq_invariant.specs.BlockHands.{HandKnows}
+use Rattle.seq_invariant.specs.BlockLeft.{IsLeft}
+use Rattle.seq_invariant.specs.BlockStanding.{ExtentStands, BlocksStand}
+use Rattle.seq_invariant.proofs.BlockInputs.{strikes_keep}
 
 module _ (d : MachineDesc) (at : Committed) (m : Machine) (p : ℕ) (next : Hand) (area : (e : ℕ) → hand_area d next e ≡ hand_area d (m.hand p) e) (on : (x : RecoveryAt) → m.hand p ≡ hand.Recovering x → next ≡ hand.Recovering x)
     (back : (x : RecoveryAt) → next ≡ hand.Recovering x → m.hand p ≡ hand.Recovering x) (knows : HandKnows d at m.copies (m.cache p) next) (st : BlocksStand d at m) where

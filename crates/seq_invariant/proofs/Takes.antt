@@ -26,21 +26,21 @@ use Rattle.seq_stands.specs.Words.{words_of, GripHolds}
 use Rattle.seq_stands.specs.Standing.{Stands}
 use Rattle.seq_stands.specs.Locks.{TakesUp, LocksStand}
 use Rattle.seq_stands.proofs.Gripped.{Firm, all_recovered}
-use Rattle.seq_locks_stand.specs.Owners as locks
-use Rattle.seq_fits.specs.Hands.{ProcessFits}
-use Rattle.seq_fits.specs.Standing as fits
-use Rattle.seq_fits.proofs.Contexts.{owner_is_process}
-use Rattle.seq_blocks.specs.Apart.{owners_of}
-use Rattle.seq_blocks.specs.Areas.{hand_area}
-use Rattle.seq_blocks.specs.Works.{Committed}
-use Rattle.seq_blocks.specs.Left.{IsLeft, HasToCopy}
-use Rattle.seq_blocks.specs.Standing.{BlocksStand}
-use Rattle.seq_blocks.specs.Turns.{CanBeTakenUp}
-use Rattle.seq_blocks.proofs.Owners.{contexts_own}
-use Rattle.seq_blocks.proofs.Steps.{first_holds}
-use Rattle.seq_blocks.proofs.Turns.{contexts_are_committed}
+use Rattle.seq_stands.specs.LockOwners as locks
+use Rattle.seq_stands.specs.FitHands.{ProcessFits}
+use Rattle.seq_stands.specs.FitStanding as fits
+use Rattle.seq_stands.proofs.FitContexts.{owner_is_process}
+use Rattle.seq_invariant.specs.BlockApart.{owners_of}
+use Rattle.seq_invariant.specs.BlockAreas.{hand_area}
+use Rattle.seq_invariant.specs.BlockWorks.{Committed}
+use Rattle.seq_invariant.specs.BlockLeft.{IsLeft, HasToCopy}
+use Rattle.seq_invariant.specs.BlockStanding.{BlocksStand}
+use Rattle.seq_invariant.specs.BlockTurns.{CanBeTakenUp}
+use Rattle.seq_invariant.proofs.BlockOwners.{contexts_own}
+use Rattle.seq_invariant.proofs.BlockSteps.{first_holds}
+use Rattle.seq_invariant.proofs.BlockTurns.{contexts_are_committed}
 use Rattle.seq_lines.proofs.Duties.{first_copies_are_read}
-use Rattle.seq_joined.proofs.Joined.{blocks_give_lines}
+use Rattle.seq_invariant.proofs.BlockLines.{blocks_give_lines}
 use Rattle.seq_invariant.proofs.Left.{deserted_word, gripped_is_alive, one_grips}
 use Rattle.seq_invariant.proofs.Free.{can_be_taken_up}
 use Rattle.seq_invariant.proofs.Claims.{claim_can}

@@ -13,10 +13,10 @@ use Rattle.seq_stands.specs.Grips.{Stage, grip}
 use Rattle.seq_stands.specs.Grips.Grip.{On}
 use Rattle.seq_stands.specs.Words.{words_of, IsRecovery, WordsStand}
 use Rattle.seq_stands.proofs.Gripped.{recovery_stage}
-use Rattle.seq_blocks.specs.Works.{Committed}
-use Rattle.seq_blocks.specs.Standing.{BlocksStand}
-use Rattle.seq_blocks.specs.Frame.{IsApart, KeepsLeft, IsAmidPass}
-use Rattle.seq_blocks.specs.Turns.{AfterTurn}
+use Rattle.seq_invariant.specs.BlockWorks.{Committed}
+use Rattle.seq_invariant.specs.BlockStanding.{BlocksStand}
+use Rattle.seq_invariant.specs.BlockFrame.{IsApart, KeepsLeft, IsAmidPass}
+use Rattle.seq_invariant.specs.BlockTurns.{AfterTurn}
 use Rattle.seq_invariant.proofs.Left.{deserted_word, gripped_is_alive, gripped_is_kept}
 use Rattle.seq_invariant.proofs.Kept.{LeavesNames, IsQuiet, calm_done, keeps_left}
 use Rattle.seq_invariant.proofs.Moved.{TurnMade, quiet_made}

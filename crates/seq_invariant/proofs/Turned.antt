@@ -15,7 +15,7 @@ use Rattle.seq_kernel.specs.declared.outcomes.Note.{Note}
 use Rattle.seq_kernel.specs.Calls.{lines_of}
 use Rattle.seq_kernel.specs.Bounds.{AreReadable}
 use Rattle.seq_kernel.specs.Shown.{HoldsInput}
-use Rattle.seq_ahead.specs.Depends.{AreWhole}
+use Rattle.seq_image.specs.Depends.{AreWhole}
 use Rattle.seq_locks.specs.declared.claim.Claim.{Claim}
 use Rattle.seq_locks.specs.declared.stages.Shadow as shadow_stage
 use Rattle.seq_locks.specs.Turns.{is_taken}
@@ -39,16 +39,16 @@ use Rattle.seq_stands.specs.Grips.Grip.{On}
 use Rattle.seq_stands.specs.Words.{words_of, Grips, GripHolds, WordsStand}
 use Rattle.seq_stands.specs.Hands.{IsHand}
 use Rattle.seq_stands.proofs.LockTurns.{only_unchanged}
-use Rattle.seq_blocks.specs.Apart.{owners_of}
-use Rattle.seq_blocks.specs.Works.{Committed}
-use Rattle.seq_blocks.specs.Hands.{HandKnows}
-use Rattle.seq_blocks.specs.Left.{IsLeft}
-use Rattle.seq_blocks.specs.Frame.{IsWithin, IsApart, KeepsLeft, IsAmidPass}
-use Rattle.seq_blocks.specs.Areas.{hand_area}
-use Rattle.seq_blocks.specs.Turns.{AfterTurn}
-use Rattle.seq_blocks.proofs.Grants.{refused}
-use Rattle.seq_blocks.proofs.Inside.{flushes_write_inside}
-use Rattle.seq_blocks.proofs.Turns.{flushes_keep, steps_keep, acquires_keep}
+use Rattle.seq_invariant.specs.BlockApart.{owners_of}
+use Rattle.seq_invariant.specs.BlockWorks.{Committed}
+use Rattle.seq_invariant.specs.BlockHands.{HandKnows}
+use Rattle.seq_invariant.specs.BlockLeft.{IsLeft}
+use Rattle.seq_invariant.specs.BlockFrame.{IsWithin, IsApart, KeepsLeft, IsAmidPass}
+use Rattle.seq_invariant.specs.BlockAreas.{hand_area}
+use Rattle.seq_invariant.specs.BlockTurns.{AfterTurn}
+use Rattle.seq_invariant.proofs.BlockGrants.{refused}
+use Rattle.seq_invariant.proofs.BlockInside.{flushes_write_inside}
+use Rattle.seq_invariant.proofs.BlockTurns.{flushes_keep, steps_keep, acquires_keep}
 use Rattle.seq_lines.specs.Arrivals.{arrived}
 use Rattle.seq_lines.specs.Inside.{HandIsInside, IsMask}
 use Rattle.seq_lines.proofs.Gives.{processes_hold_input, memories_are_readable}

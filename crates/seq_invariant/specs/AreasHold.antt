@@ -1,5 +1,5 @@
 -- What the copies of blocks hold at every moment, in plain words: at rest, and amid the two passes of a flush.
-use Rattle.std.specs.Prelude.{◌≡◌, ℕ, suc, ◌-◌, ◌<◌, Bool, true, false, ◌||◌, ◌==◌, List, length, Some, None}
+use Rattle.std.specs.Prelude.{◌≡◌, ℕ, suc, ◌-◌, ◌<◌, ◌≤◌, Bool, true, false, ◌||◌, ◌==◌, List, length, Some, None}
 use Rattle.seq_words.specs.Masks.{has_bit}
 use Rattle.seq_words.specs.Description.{IsDescription}
 use Rattle.seq_words.specs.declared.description.MachineDesc.{MachineDesc}
@@ -28,7 +28,7 @@ use Rattle.seq_turns.specs.declared.hand.Hand.TheVariants as hand
 use Rattle.seq_turns.specs.declared.hand.FlushAt.TheVariants as flush
 use Rattle.seq_turns.specs.Machines.{Machine}
 use Rattle.seq_turns.specs.Reading.{ruling, awaits}
-use Rattle.seq_blocks.specs.Works.{one_more}
+use Rattle.seq_invariant.specs.BlockWorks.{one_more}
 use Rattle.seq_lines.specs.Arrivals.{arrived}
 use Rattle.seq_invariant.specs.Holds.{AllHolds}
 use Rattle.seq_invariant.specs.Processes.{lock}
@@ -74,17 +74,22 @@ pub record RestingAreasHold (d : MachineDesc) (f : FlatState) (m : Machine) : Ty
   pub segment : (t : ℕ) → t < length d.segments → lock d m t ≡ 0 → Rests d f m (segment_extent (shape_of d) t)
 
 -- Before the commit of a flush, with so many units written: shadows hold the committed state. On primaries the units that are
--- written are those of the state that the process's steps lead to; blocks that are no units are those of the committed state.
+-- written are those of the state that the process's steps lead to; at the places of those that are still to be written, and in all
+-- blocks that are no units, they hold the committed state.
 pub record FirstPassIn (d : MachineDesc) (inputs : List LineInput) (f : FlatState) (m : Machine) (r : Running) (mask : ℕ) (us : List Change) (written : ℕ) : Type 0 where
   pub next : FlatState
   pub steps : steps d inputs r.pid.0 r.steps f ≡ Some next
   pub shadows : (e n : ℕ) → flush_area d r mask e ≡ true → serves (shape_of d) m.copies e true ≡ true → m.copies.block e n true ≡ kept d f m e n
   pub units : (k : ℕ) → k < written → k < length us → serves (shape_of d) m.copies (unit_at us k).extent.0 false ≡ true →
       m.copies.block (unit_at us k).extent.0 (unit_at us k).place false ≡ kept_next d next m r.pid.0 (unit_at us k).extent.0 (unit_at us k).place
+  pub to_come : (k : ℕ) → written ≤ k → k < length us → serves (shape_of d) m.copies (unit_at us k).extent.0 false ≡ true →
+      m.copies.block (unit_at us k).extent.0 (unit_at us k).place false ≡ kept d f m (unit_at us k).extent.0 (unit_at us k).place
   pub others : (e n : ℕ) → flush_area d r mask e ≡ true → serves (shape_of d) m.copies e false ≡ true → changed us e n ≡ None → m.copies.block e n false ≡ kept d f m e n
 
--- After it: primaries hold the committed state. So do shadows, in the units that are written and in all blocks that are no units.
+-- After it: each unit is the committed block at its place, and primaries hold the committed state. So do shadows, in the units that
+-- are written and in all blocks that are no units.
 pub record SecondPassIn (d : MachineDesc) (f : FlatState) (m : Machine) (r : Running) (mask : ℕ) (us : List Change) (written : ℕ) : Type 0 where
+  pub cached : (k : ℕ) → k < length us → (unit_at us k).block ≡ kept d f m (unit_at us k).extent.0 (unit_at us k).place
   pub primaries : (e n : ℕ) → flush_area d r mask e ≡ true → serves (shape_of d) m.copies e false ≡ true → m.copies.block e n false ≡ kept d f m e n
   pub units : (k : ℕ) → k < written → k < length us → serves (shape_of d) m.copies (unit_at us k).extent.0 true ≡ true →
       m.copies.block (unit_at us k).extent.0 (unit_at us k).place true ≡ kept d f m (unit_at us k).extent.0 (unit_at us k).place

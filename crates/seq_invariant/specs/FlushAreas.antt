@@ -16,6 +16,10 @@ pub record IsAreaOf (d : MachineDesc) (m : Machine) (r : Running) (mask : ℕ) :
   pub named : (e : ℕ) → flush_area d r mask e ≡ true → area_of d m r.pid.0 e ≡ true
   pub flushed : (e : ℕ) → area_of d m r.pid.0 e ≡ true → flush_area d r mask e ≡ true
 
+-- So it is of each flush.
+pub record FlushAreasAre (d : MachineDesc) (m : Machine) : Type 0 where
+  pub each : (p : ℕ) (r : Running) (why : Cause) (mask : ℕ) (x : FlushAt) → m.hand p ≡ hand.Flushing r why mask x → IsAreaOf d m r mask
+
 -- So it is at every moment.
 abbrev pub FlushAreasAgree : Type 0
 FlushAreasAgree =

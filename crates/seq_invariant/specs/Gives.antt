@@ -9,10 +9,10 @@ use Rattle.seq_turns.specs.Start.{start}
 use Rattle.seq_turns.specs.Allowed.{Allowed}
 use Rattle.seq_turns.specs.Events.{happens, run}
 use Rattle.seq_stands.specs.Standing.{AllAllowed}
-use Rattle.seq_blocks.specs.Works.{committed_blocks}
-use Rattle.seq_blocks.specs.Rest.{at_start}
+use Rattle.seq_invariant.specs.BlockWorks.{committed_blocks}
+use Rattle.seq_invariant.specs.BlockRest.{at_start}
 use Rattle.seq_lines.specs.Arrivals.{arrived}
-use Rattle.seq_settled.specs.Settled.{IsSettled, IsDone}
+use Rattle.seq_lines.specs.Settled.{IsSettled, IsDone}
 use Rattle.seq_invariant.specs.Holds.{AllHolds}
 
 -- what is committed is the flat state along the history, with what has arrived

@@ -9,11 +9,11 @@ use Rattle.seq_turns.specs.Allowed.{Allowed}
 use Rattle.seq_turns.specs.Events.{happens, is_check, run}
 use Rattle.seq_stands.specs.Standing.{Stands, AllAllowed}
 use Rattle.seq_stands.specs.Locks.{LocksStand}
-use Rattle.seq_fits.specs.Standing.{Fits}
-use Rattle.seq_blocks.specs.Apart.{owners_of}
-use Rattle.seq_blocks.specs.Works.{Committed, committed_blocks}
-use Rattle.seq_blocks.specs.Standing.{BlocksStand}
-use Rattle.seq_blocks.specs.Rest.{at_start}
+use Rattle.seq_stands.specs.FitStanding.{Fits}
+use Rattle.seq_invariant.specs.BlockApart.{owners_of}
+use Rattle.seq_invariant.specs.BlockWorks.{Committed, committed_blocks}
+use Rattle.seq_invariant.specs.BlockStanding.{BlocksStand}
+use Rattle.seq_invariant.specs.BlockRest.{at_start}
 use Rattle.seq_lines.specs.Arrivals.{arrived}
 use Rattle.seq_lines.specs.Lines.{LinesStand}
 use Rattle.seq_lines.specs.Inside.{HandIsInside}

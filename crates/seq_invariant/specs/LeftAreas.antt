@@ -11,7 +11,7 @@ use Rattle.seq_turns.specs.declared.recovery.RecoveryAt.TheVariants as recovery
 use Rattle.seq_turns.specs.Machines.{Machine}
 use Rattle.seq_turns.specs.Reading.{ruling}
 use Rattle.seq_turns.specs.Recoveries.{recovered_blocks}
-use Rattle.seq_blocks.specs.Left.{way_of}
+use Rattle.seq_invariant.specs.BlockLeft.{way_of}
 use Rattle.seq_invariant.specs.Holds.{AllHolds}
 use Rattle.seq_invariant.specs.Processes.{Awaits}
 use Rattle.seq_invariant.specs.AreasHold.{kept, area_of, Rests}

@@ -17,6 +17,7 @@ use Rattle.seq_status.specs.declared.status.Holder.{Holder}
 use Rattle.seq_status.specs.declared.status.Status.{Status}
 use Rattle.seq_status.specs.declared.status.Status.TheVariants.{Idle, Run, Pass1, Pass2, Back, Forward}
 use Rattle.seq_status.specs.Words.{IsStatusWord}
+use Rattle.seq_ruling.specs.Ruling.{status_in, NamesOneOf}
 use Rattle.seq_process.specs.declared.running.Running.{Running}
 use Rattle.seq_kernel.specs.Calls.{lines_of, line_index}
 use Rattle.seq_turns.specs.declared.hand.Hand.{Hand}
@@ -31,6 +32,7 @@ use Rattle.seq_turns.specs.Reading.{ruling, lives, awaits, is_amid}
 use Rattle.seq_stands.specs.Service.{IsEqual}
 use Rattle.seq_lines.specs.Arrivals.{arrived}
 use Rattle.seq_invariant.specs.Holds.{AllHolds}
+use Rattle.seq_invariant.specs.Within.{HoldsWithin}
 use Rattle.seq_invariant.specs.Orders.{running_in}
 
 -- At most one memory isn't in service, and while one isn't, no process awaits recovery. While one is being copied no processor is
@@ -125,6 +127,13 @@ pub record StatusWordsName (d : MachineDesc) (m : Machine) : Type 0 where
   pub same : (q : ℕ) → q < length d.processes → serves (shape_of d) m.copies q false ≡ true → serves (shape_of d) m.copies q true ≡ true →
       (m.copies.word q 0 true ≡ m.copies.word q 0 false) ⊎ IsHalfSet m q ⊎ (awaits m.incarnation (ruling d m.copies q) ≡ true)
 
+-- On both copies status words have the format, also while the process awaits recovery. They name no processor that isn't there, and
+-- no incarnation above its present one.
+pub record StatusWordsHaveFormat (d : MachineDesc) (m : Machine) : Type 0 where
+  pub format : (q : ℕ) (c : Bool) → q < length d.processes → IsStatusWord (m.copies.word q 0 c)
+  pub named : (q : ℕ) (c : Bool) → q < length d.processes → NamesOneOf d.processors (status_in (m.copies.word q 0 c))
+  pub in_time : (q : ℕ) (c : Bool) (h : Holder) → q < length d.processes → named_by (status_in (m.copies.word q 0 c)) ≡ Some h → h.incarnation ≤ m.incarnation h.pe.0
+
 -- of a line, at one of its copies: its journal count, whether it is closed, its sent count, and a byte of its journal
 abbrev pub counted : MachineDesc → Machine → ℕ → Bool → ℕ
 counted d m l c = m.copies.word (line_extent (shape_of d) l) 0 c
@@ -171,6 +180,10 @@ MemoriesServeAlways = (d : MachineDesc) (events : List Event) (m : Machine) → 
 
 abbrev pub StatusWordsNameAlways : Type 0
 StatusWordsNameAlways = (d : MachineDesc) (events : List Event) (m : Machine) → IsDescription d → AllHolds d events m → StatusWordsName d m
+
+-- with the bounds of all that elements hold
+abbrev pub StatusWordsHaveFormatAlways : Type 0
+StatusWordsHaveFormatAlways = (d : MachineDesc) (events : List Event) (m : Machine) → HoldsWithin d events m → StatusWordsHaveFormat d m
 
 abbrev pub LinesCountAlways : Type 0
 LinesCountAlways = (d : MachineDesc) (events : List Event) (m : Machine) → IsDescription d → (all : AllHolds d events m) → LinesCount d (arrived d events) all.at.state m

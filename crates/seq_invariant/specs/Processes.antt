@@ -21,8 +21,9 @@ use Rattle.seq_turns.specs.declared.hand.Hand.{Hand}
 use Rattle.seq_turns.specs.declared.hand.Hand.TheVariants as hand
 use Rattle.seq_turns.specs.declared.hand.FlushAt.{FlushAt}
 use Rattle.seq_turns.specs.declared.hand.FlushAt.TheVariants as flush
+use Rattle.seq_turns.specs.declared.hand.ReleaseAt.TheVariants as release
 use Rattle.seq_turns.specs.Machines.{Machine}
-use Rattle.seq_turns.specs.Reading.{ruling, awaits}
+use Rattle.seq_turns.specs.Reading.{ruling, awaits, lock_word}
 use Rattle.seq_lines.specs.Arrivals.{arrived}
 use Rattle.seq_invariant.specs.Holds.{AllHolds}
 use Rattle.seq_invariant.specs.Orders.{running_in}
@@ -73,6 +74,24 @@ pub record IsMoved (m : Machine) (q t : ℕ) : Type 0 where
   pub processor : ℕ
   pub moves : Claims (m.hand processor) q t ⊎ Releases (m.hand processor) q t
 
+-- The hand has set one copy of the lock word of segment t for process q, and the other is to be: amid a claim, and amid a release.
+abbrev pub SetsOneLock : MachineDesc → Hand → ℕ → ℕ → Type 0
+SetsOneLock d hand.Down q t = ⊥
+SetsOneLock d hand.Seek q t = ⊥
+SetsOneLock d (hand.Claiming x c) q t = ⊥
+SetsOneLock d (hand.Running r) q t = ⊥
+SetsOneLock d (hand.Acquiring r s c) q t = (r.pid.0 ≡ q) × (s.0 ≡ t)
+SetsOneLock d (hand.Flushing r why mask f) q t = ⊥
+SetsOneLock d (hand.Unlocking r why mask (release.Shadow l)) q t = ⊥
+SetsOneLock d (hand.Unlocking r why mask (release.Primary l)) q t = (r.pid.0 ≡ q) × (l.at ≡ lock_word d t)
+SetsOneLock d (hand.Leaving x l) q t = ⊥
+SetsOneLock d (hand.Recovering x) q t = ⊥
+
+-- a processor has set one copy of the lock word of segment t for process q
+pub record IsHalfLocked (d : MachineDesc) (m : Machine) (q t : ℕ) : Type 0 where
+  pub processor : ℕ
+  pub sets : SetsOneLock d (m.hand processor) q t
+
 -- process q awaits recovery
 abbrev pub Awaits : MachineDesc → Machine → ℕ → Type 0
 Awaits d m q = awaits m.incarnation (ruling d m.copies q) ≡ true
@@ -82,14 +101,14 @@ abbrev pub IsOf : MachineDesc → FlatState → Machine → ℕ → ℕ → Type
 IsOf d f m q t = ((segment_at f t).owner ≡ Some (record { 0 = q })) ⊎ (((segment_at f t).owner ≡ None) × (IsHeld m q t ⊎ IsMoved m q t ⊎ Awaits d m q))
 
 -- A segment whose lock is free has no owner, and nobody holds it. Else it is of the process that its lock names. Two copies in
--- service are one word, but amid a claim or release and where the process that the primary names awaits recovery; a shadow isn't
--- set while the primary is free.
+-- service are one word, but while a processor has set one of them alone, amid a claim or release, and where the process that the
+-- primary names awaits recovery; a shadow isn't set while the primary is free.
 pub record LocksName (d : MachineDesc) (f : FlatState) (m : Machine) : Type 0 where
   pub unowned : (t : ℕ) → t < length d.segments → lock d m t ≡ 0 → (segment_at f t).owner ≡ None
   pub unheld : (t q : ℕ) → t < length d.segments → lock d m t ≡ 0 → IsHeld m q t → ⊥
   pub named : (t q : ℕ) → t < length d.segments → lock d m t ≡ suc q → IsOf d f m q t
   pub same : (t q : ℕ) → t < length d.segments → serves (shape_of d) m.copies (segment_extent (shape_of d) t) false ≡ true → serves (shape_of d) m.copies (segment_extent (shape_of d) t) true ≡ true → lock_copy d m t false ≡ suc q →
-      (lock_copy d m t true ≡ suc q) ⊎ ((lock_copy d m t true ≡ 0) × (IsMoved m q t ⊎ Awaits d m q))
+      (lock_copy d m t true ≡ suc q) ⊎ ((lock_copy d m t true ≡ 0) × (IsHalfLocked d m q t ⊎ Awaits d m q))
   pub shadow : (t : ℕ) → t < length d.segments → serves (shape_of d) m.copies (segment_extent (shape_of d) t) false ≡ true → serves (shape_of d) m.copies (segment_extent (shape_of d) t) true ≡ true → lock_copy d m t false ≡ 0 → lock_copy d m t true ≡ 0
 
 -- What a processor has of its process is what the flat state has: registers and pc in a half that isn't struck, whether it has
@@ -106,25 +125,6 @@ pub record HasBytes (d : MachineDesc) (g : FlatState) (o : Blocks) (r : Running)
   pub private : HoldBytes o r.pid.0 (before_private (process_of d r.pid.0)) (process_at g r.pid.0).bytes
   pub outbox : (l k : ℕ) → has_bit (lines_of d r) l ≡ true → k < 256 → byte_in o r.pid.0 (256 + 256 * line_index d r l + k) ≡ outbox_byte (line_at g l).output k
   pub segment : (t : ℕ) → t < length d.segments → has_bit r.held t ≡ true → HoldBytes o (segment_extent (shape_of d) t) 0 (segment_at g t).bytes
-
--- a flush is before its commit
-abbrev pub FlushIsBefore : FlushAt → Type 0
-FlushIsBefore (flush.Mark f) = Unit {0}
-FlushIsBefore (flush.First f) = Unit {0}
-FlushIsBefore (flush.Second f) = ⊥
-FlushIsBefore (flush.Close f) = ⊥
-
--- the changes in the cache are not yet committed, or there are none
-abbrev pub ReadsCache : Hand → Type 0
-ReadsCache hand.Down = Unit {0}
-ReadsCache hand.Seek = Unit {0}
-ReadsCache (hand.Claiming q c) = Unit {0}
-ReadsCache (hand.Running r) = Unit {0}
-ReadsCache (hand.Acquiring r t c) = Unit {0}
-ReadsCache (hand.Flushing r why mask f) = FlushIsBefore f
-ReadsCache (hand.Unlocking r why mask l) = Unit {0}
-ReadsCache (hand.Leaving q l) = Unit {0}
-ReadsCache (hand.Recovering x) = Unit {0}
 
 -- after the commit of a flush
 abbrev pub FlushIsAfter : FlushAt → Type 0
@@ -147,13 +147,13 @@ IsAfterCommit (hand.Recovering x) = ⊥
 
 -- Processor p runs a process: its steps since its last checkpoint, at most the quantum, are enabled from the committed state f one
 -- after the other, and after them the process is what the processor has; in memory it is what the cache over the first copies has,
--- as long as the changes aren't committed. After the commit no step is left. Where no half is struck, both are equal.
+-- also amid both passes of a flush. After the commit no step is left. Where no half is struck, both are equal.
 pub record IsAheadIn (d : MachineDesc) (inputs : List LineInput) (f : FlatState) (m : Machine) (p : ℕ) (r : Running) : Type 0 where
   pub state : FlatState
   pub steps : steps d inputs r.pid.0 r.steps f ≡ Some state
   pub quantum : r.steps ≤ d.quantum
   pub has : HasProcess d state r
-  pub bytes : ReadsCache (m.hand p) → HasBytes d state (read_by d m.copies (m.cache p)) r
+  pub bytes : HasBytes d state (read_by d m.copies (m.cache p)) r
   pub equal : r.pair.struck ≡ None → r.pair.a ≡ r.pair.b
   pub committed : IsAfterCommit (m.hand p) → r.steps ≡ 0
 

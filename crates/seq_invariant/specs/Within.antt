@@ -1,21 +1,32 @@
 -- All that stands of a machine, and that it stays within its bounds: after every event that doesn't end the run.
-use Rattle.std.specs.Prelude.{◌≡◌, false, List, [], ◌∷◌, ◌++◌}
+use Rattle.std.specs.Prelude.{◌≡◌, ℕ, ◌<◌, Bool, false, List, [], ◌∷◌, ◌++◌, length}
 use Rattle.seq_words.specs.Description.{IsDescription}
 use Rattle.seq_words.specs.declared.description.MachineDesc.{MachineDesc}
 use Rattle.seq_words.specs.declared.events.Event.{Event}
 use Rattle.seq_turns.specs.Machines.{Machine}
 use Rattle.seq_turns.specs.Allowed.{Allowed}
 use Rattle.seq_turns.specs.Events.{happens, is_check, run}
-use Rattle.seq_stands.specs.Standing.{AllAllowed}
-use Rattle.seq_fits.specs.Fit.{Fit, ClearsInOrder}
+use Rattle.seq_stands.specs.Plain.{IsInTime}
+use Rattle.seq_stands.specs.Standing.{Stands, AllAllowed}
+use Rattle.seq_stands.specs.Fit.{Fit, ClearsInOrder}
 use Rattle.seq_invariant.specs.Holds.{AllHolds}
 use Rattle.seq_invariant.specs.Gives.{at_first}
 
--- After these events all stands, each element is within its bounds, and recoveries clear lock words in their order.
+-- On both copies status words have the format, and name no incarnation above the processor's present one.
+pub record StatusWordsInTime (d : MachineDesc) (m : Machine) : Type 0 where
+  pub each : (q : ℕ) (c : Bool) → q < length d.processes → IsInTime d m (m.copies.word q 0 c)
+
+-- After these events all stands, each element is within its bounds, recoveries clear lock words in their order, and status words
+-- are in time.
 pub record HoldsWithin (d : MachineDesc) (events : List Event) (m : Machine) : Type 0 where
   pub all : AllHolds d events m
   pub fit : Fit d m
   pub clears : ClearsInOrder d m
+  pub in_time : StatusWordsInTime d m
+
+-- Every event that may be made keeps status words in time, also one that ends the run.
+abbrev pub EventsKeepInTime : Type 0
+EventsKeepInTime = (d : MachineDesc) (m : Machine) (e : Event) → IsDescription d → Allowed d m e → Stands d m → StatusWordsInTime d m → StatusWordsInTime d (happens d m e)
 
 -- Where all stands, an event that may be made and doesn't end the run keeps the order in which recoveries clear lock words.
 abbrev pub EventsKeepOrder : Type 0

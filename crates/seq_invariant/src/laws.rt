@@ -2,7 +2,7 @@
 ghost use Rattle.seq_invariant.specs.Gives.{CommittedIsFlatRun, SentIsRight, SentIsRightOn, RunsSendRight, SettledIsDone};
 ghost use Rattle.seq_invariant.specs.Holds.{StartHolds, EventsKeepAll, RunsKeepAll, RunsHold};
 ghost use Rattle.seq_invariant.specs.Orders.{StepsInAnyOrder};
-ghost use Rattle.seq_invariant.specs.Within.{EventsKeepOrder, StartHoldsWithin, EventsKeepWithin, RunsKeepWithin, RunsHoldWithin, RunsFit};
+ghost use Rattle.seq_invariant.specs.Within.{EventsKeepInTime, EventsKeepOrder, StartHoldsWithin, EventsKeepWithin, RunsKeepWithin, RunsHoldWithin, RunsFit};
 
 /// At the start all stands: words, locks, bounds, blocks and lines.
 pub fn all_holds_at_start()
@@ -48,6 +48,11 @@ pub fn steps_in_any_order()
 /// has cleared, where all stands.
 pub fn recoveries_clear_in_order()
     ensures { EventsKeepOrder }
+{}
+
+/// Every event that may be made leaves status words, on both copies, with the format and with no incarnation above the present one.
+pub fn status_words_stay_in_time()
+    ensures { EventsKeepInTime }
 {}
 
 /// All that an element holds stays within its bounds, together with all that stands: at the start, and after every event that may

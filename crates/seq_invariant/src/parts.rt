@@ -3,7 +3,7 @@ ghost use Rattle.seq_invariant.specs.AreasHold.{RestingAreasHoldAlways, FirstPas
 ghost use Rattle.seq_invariant.specs.FlushAreas.{FlushAreasAgree};
 ghost use Rattle.seq_invariant.specs.LeftAreas.{LeftAreasHoldAlways};
 ghost use Rattle.seq_invariant.specs.Moments.{RunsShow};
-ghost use Rattle.seq_invariant.specs.Parts.{MemoriesServeAlways, StatusWordsNameAlways, LinesCountAlways};
+ghost use Rattle.seq_invariant.specs.Parts.{MemoriesServeAlways, StatusWordsNameAlways, StatusWordsHaveFormatAlways, LinesCountAlways};
 ghost use Rattle.seq_invariant.specs.Processes.{LocksNameAlways, RunningIsAheadAlways};
 
 /// At most one memory isn't in service, and one that is being copied is equal to the other copy behind its next unit.
@@ -14,6 +14,12 @@ pub fn memories_serve()
 /// Status words have the format, and name who has the process in its hand; both copies are equal but amid a turn of two.
 pub fn status_words_name()
     ensures { StatusWordsNameAlways }
+{}
+
+/// Both copies of each status word have the format, also while the process awaits recovery, and name no incarnation above the
+/// present one.
+pub fn status_words_have_format()
+    ensures { StatusWordsHaveFormatAlways }
 {}
 
 /// Journals, ports, closed words, accepted and sent bytes, and the room of outboxes.

@@ -1,10 +1,11 @@
 -- A turn of a processor commits the entry that its note says.
-use Rattle.std.proofs.Common.{◌≡◌, ℕ, ◌-◌, true, false, ◌==◌, nat_le, [], Option, None, refl, ap, sym, ◌∙◌, inl, inr}
+use Rattle.std.proofs.Common.{◌≡◌, ℕ, ◌-◌, true, false, ◌==◌, nat_le, [], Option, Some, None, refl, ap, sym, ◌∙◌, subst, inl, inr}
+use Rattle.std.specs.Prelude.{slice_index}
 use Rattle.std.proofs.lemmas.Bool.{cond_both, cases_Bool}
 use Rattle.seq_words.specs.declared.events.Entry.{Entry}
 use Rattle.seq_words.specs.declared.description.MachineDesc.{MachineDesc}
 use Rattle.seq_layout.specs.Shapes.{shape_of}
-use Rattle.seq_layout.specs.Copies.{Copies}
+use Rattle.seq_layout.specs.Copies.{Copies, copies}
 use Rattle.seq_status.specs.declared.status.Status.TheVariants.{Run}
 use Rattle.seq_status.specs.Words.{word_of}
 use Rattle.seq_process.specs.declared.running.Running.{Running}
@@ -21,21 +22,27 @@ use Rattle.seq_kernel.specs.declared.outcomes.Outcome.TheVariants as outcome
 use Rattle.seq_kernel.specs.declared.outcomes.Note.TheVariants as note
 use Rattle.seq_turns.specs.declared.hand.Hand.{Hand}
 use Rattle.seq_turns.specs.declared.hand.Hand.TheVariants as hand
+use Rattle.seq_turns.specs.declared.recovery.RecoveryAt.{RecoveryAt}
 use Rattle.seq_turns.specs.declared.hand.FlushAt.{FlushAt}
 use Rattle.seq_turns.specs.declared.hand.FlushAt.TheVariants as flush
 use Rattle.seq_turns.specs.declared.hand.ReleaseAt.TheVariants as release
 use Rattle.seq_turns.specs.Machines.{Machine, Move, Turn, idles}
 use Rattle.seq_turns.specs.Machines.Turn.{Moves, Looks, Stops}
 use Rattle.seq_io.specs.Changes.Change.{Unchanged}
-use Rattle.seq_turns.specs.Reading.{status_word, lock_word, holder, write_word, context_of}
+use Rattle.seq_turns.specs.Reading.{status_word, lock_word, holder, write_word, context_of, ruling, goes_forward, copied_memory}
+use Rattle.seq_turns.specs.Recoveries.{begins, recovers, recovery_move}
 use Rattle.seq_turns.specs.Causes.{agree, follows, flushes, finds, released}
 use Rattle.seq_turns.specs.Operations.{goes, sets, unit_count, taken_up, flush_move}
-use Rattle.seq_turns.specs.Processors.{is_free, next_process, after_step, runs, turn}
+use Rattle.seq_turns.specs.Processors.{is_free, next_process, deserted, looks, seeks, after_step, runs, turn}
 use Rattle.seq_turns.specs.Events.{note_of_turn}
-use Rattle.seq_machine.specs.Here.{here, commit_of}
+use Rattle.seq_machine.specs.Here.{here, among, commit_of}
 use Rattle.seq_machine.specs.Needs.{IsOperating}
-use Rattle.seq_machine.specs.Processors.{TurnNeeds, local_turn}
+use Rattle.seq_machine.specs.Plain.{Outside, processor_of, machine_of}
+use Rattle.seq_machine.specs.Processors.{local_turn}
+use Rattle.seq_machine.specs.declared.hardware.Hardware.{Hardware}
 use Rattle.seq_machine.specs.Happening.{sent_in, entries_in, entries_of}
+use Rattle.seq_machine.proofs.Tied.{turn_is}
+use Rattle.seq_machine.proofs.Recovering.{Recovers, claimed_recovers, move_recovers}
 
 -- A turn's note says what it commits, and that nothing is sent.
 pub record TellsCommit (p : ℕ) (t : Turn) : Type 0 where
@@ -87,43 +94,65 @@ module _ (d : MachineDesc) (m : Machine) (p : ℕ) where
     | inr t ↦ rw t (record { told = refl; unsent = λ l. refl })
   ]
 
-module _ (d : MachineDesc) (p : Copies) (cache : Changes) (i scan pe : ℕ) where
-  looks_silent : IsSilent pe (local_turn d p cache i scan pe hand.Seek)
-  looks_silent = cond_both (is_free d (here p cache i) scan)
-      (goes (here p cache i) pe (write_word d p scan 0 false (word_of (Run (holder (here p cache i) pe)))) (hand.Claiming (record { 0 = scan }) (record { at = status_word scan; value = word_of (Run (holder (here p cache i) pe)); stage = record {} })))
-      (record (idles (here p cache i) pe) { note = note.Looked (record { 0 = scan }) })
-      (λ (x : Move). IsSilent pe (Looks (next_process d scan) x)) (λ _. record { quiet = refl; none = refl; unsent = λ l. refl }) (λ _. record { quiet = refl; none = refl; unsent = λ l. refl })
+  -- so are those of a recovery
+  moved_silent : (move : Move) → Recovers m p move → IsSilent p (Moves move)
+  moved_silent move is = record { quiet = ap entries_in is.note; none = is.commit; unsent = λ l. ap (λ n. sent_in n l) is.note }
 
-  pub local_tells : (h : Hand) → TurnNeeds d p cache scan h → TellsCommit pe (local_turn d p cache i scan pe h)
-  local_tells hand.Down needs = record { told = refl; unsent = λ l. refl }
-  local_tells hand.Seek needs = silent_tells pe (local_turn d p cache i scan pe hand.Seek) looks_silent
-  local_tells (hand.Claiming q c) needs = cond_both (is_taken (shape_of d) p c.at true) (goes (here p cache i) pe Unchanged hand.Seek)
-      (record (goes (here p cache i) pe (sets d (here p cache i) c.at true c.value) (taken_up d (here p cache i) q.0 (end_of (context_of d p q.0)))) { cache = record cache { changes = [] } })
+  -- and those of a processor that seeks
+  looks_silent : (q : ℕ) → IsSilent p (Looks (next_process d q) (looks d m p q))
+  looks_silent q = cond_both (is_free d m q)
+      (goes m p (write_word d m.copies q 0 false (word_of (Run (holder m p)))) (hand.Claiming (record { 0 = q }) (record { at = status_word q; value = word_of (Run (holder m p)); stage = record {} })))
+      (record (idles m p) { note = note.Looked (record { 0 = q }) })
+      (λ (x : Move). IsSilent p (Looks (next_process d q) x)) (λ _. record { quiet = refl; none = refl; unsent = λ l. refl }) (λ _. record { quiet = refl; none = refl; unsent = λ l. refl })
+
+  seeks_silent : (found : Option ℕ) → IsSilent p (seeks d m p found)
+  seeks_silent (Some q) = moved_silent (recovers d m p q) (claimed_recovers d m p (begins m p q (goes_forward (ruling d m.copies q))))
+  seeks_silent None = looks_silent (m.scan p)
+
+module _ (d : MachineDesc) (p : Copies) (cache : Changes) (i : ℕ → ℕ) (scan pe : ℕ) where
+  abbrev m : Machine
+  m = here p cache (i pe)
+
+  seek_silent : IsSilent pe (local_turn d p cache i scan pe hand.Seek)
+  seek_silent = seeks_silent d (among p cache i scan) pe (deserted d (among p cache i scan))
+
+  recovery_silent : (r : RecoveryAt) → IsSilent pe (Moves (recovery_move d m pe r))
+  recovery_silent r = moved_silent d m pe (recovery_move d m pe r) (move_recovers d m pe r)
+
+  pub local_tells : (h : Hand) → TellsCommit pe (local_turn d p cache i scan pe h)
+  local_tells hand.Down = record { told = refl; unsent = λ l. refl }
+  local_tells hand.Seek = silent_tells pe (local_turn d p cache i scan pe hand.Seek) seek_silent
+  local_tells (hand.Claiming q c) = cond_both (is_taken (shape_of d) p c.at true) (goes m pe Unchanged hand.Seek)
+      (record (goes m pe (sets d m c.at true c.value) (taken_up d m q.0 (end_of (context_of d p q.0)))) { cache = record cache { changes = [] } })
       (λ (x : Move). TellsCommit pe (Moves x)) (λ _. record { told = refl; unsent = λ l. refl }) (λ _. record { told = refl; unsent = λ l. refl })
-  local_tells (hand.Running r) needs = silent_tells pe (runs d (here p cache i) pe r) (runs_silent d (here p cache i) pe r)
-  local_tells (hand.Acquiring r t c) needs = cond_both (is_taken (shape_of d) p c.at true)
-      (finds d (here p cache i) pe r cache (Wait (Lock t (record { 0 = word_at p c.at true - 1 }))) 0) _ (TellsCommit pe)
-      (λ _. silent_tells pe (finds d (here p cache i) pe r cache (Wait (Lock t (record { 0 = word_at p c.at true - 1 }))) 0) (finds_silent d (here p cache i) pe r cache (Wait (Lock t (record { 0 = word_at p c.at true - 1 }))) 0))
+  local_tells (hand.Running r) = silent_tells pe (runs d m pe r) (runs_silent d m pe r)
+  local_tells (hand.Acquiring r t c) = cond_both (is_taken (shape_of d) p c.at true)
+      (finds d m pe r cache (Wait (Lock t (record { 0 = word_at p c.at true - 1 }))) 0) _ (TellsCommit pe)
+      (λ _. silent_tells pe (finds d m pe r cache (Wait (Lock t (record { 0 = word_at p c.at true - 1 }))) 0) (finds_silent d m pe r cache (Wait (Lock t (record { 0 = word_at p c.at true - 1 }))) 0))
       (λ _. record { told = refl; unsent = λ l. refl })
-  local_tells (hand.Flushing r cause mask f) needs = flush_tells d (here p cache i) pe r cause mask f
-  local_tells (hand.Unlocking r cause mask (release.Shadow l)) needs = record { told = refl; unsent = λ l. refl }
-  local_tells (hand.Unlocking r cause mask (release.Primary l)) needs = record { told = refl; unsent = λ l. refl }
-  local_tells (hand.Leaving q (release.Shadow l)) needs = record { told = refl; unsent = λ l. refl }
-  local_tells (hand.Leaving q (release.Primary l)) needs = record { told = refl; unsent = λ l. refl }
-  local_tells (hand.Recovering r) needs = absurd needs
+  local_tells (hand.Flushing r cause mask f) = flush_tells d m pe r cause mask f
+  local_tells (hand.Unlocking r cause mask (release.Shadow l)) = record { told = refl; unsent = λ l. refl }
+  local_tells (hand.Unlocking r cause mask (release.Primary l)) = record { told = refl; unsent = λ l. refl }
+  local_tells (hand.Leaving q (release.Shadow l)) = record { told = refl; unsent = λ l. refl }
+  local_tells (hand.Leaving q (release.Primary l)) = record { told = refl; unsent = λ l. refl }
+  local_tells (hand.Recovering r) = silent_tells pe (Moves (recovery_move d m pe r)) (recovery_silent r)
 
   -- what the code reads of a hand is what its turn commits
   module _ (result : Option Entry) where
-    committed_is : (h : Hand) → TurnNeeds d p cache scan h → (IsOperating h → result ≡ commit_of (turn d (here p cache i) pe h)) → ((IsOperating h → ⊥) → result ≡ None) → result ≡ commit_of (local_turn d p cache i scan pe h)
-    committed_is hand.Down needs some none = none (λ x. x)
-    committed_is hand.Seek needs some none = none (λ x. x) ∙ sym looks_silent.none
-    committed_is (hand.Claiming q c) needs some none = some tt
-    committed_is (hand.Running r) needs some none = none (λ x. x) ∙ sym (runs_silent d (here p cache i) pe r).none
-    committed_is (hand.Acquiring r t c) needs some none = some tt
-    committed_is (hand.Flushing r cause mask f) needs some none = some tt
-    committed_is (hand.Unlocking r cause mask l) needs some none = some tt
-    committed_is (hand.Leaving q l) needs some none = some tt
-    committed_is (hand.Recovering r) needs some none = absurd needs
+    committed_is : (h : Hand) → (IsOperating h → result ≡ commit_of (turn d m pe h)) → ((IsOperating h → ⊥) → result ≡ None) → result ≡ commit_of (local_turn d p cache i scan pe h)
+    committed_is hand.Down some none = none (λ x. x)
+    committed_is hand.Seek some none = none (λ x. x) ∙ sym seek_silent.none
+    committed_is (hand.Claiming q c) some none = some tt
+    committed_is (hand.Running r) some none = none (λ x. x) ∙ sym (runs_silent d m pe r).none
+    committed_is (hand.Acquiring r t c) some none = some tt
+    committed_is (hand.Flushing r cause mask f) some none = some tt
+    committed_is (hand.Unlocking r cause mask l) some none = some tt
+    committed_is (hand.Leaving q l) some none = some tt
+    committed_is (hand.Recovering r) some none = none (λ x. x) ∙ sym (recovery_silent r).none
 
-    pub entries_told : (h : Hand) → TurnNeeds d p cache scan h → (IsOperating h → result ≡ commit_of (turn d (here p cache i) pe h)) → ((IsOperating h → ⊥) → result ≡ None) → entries_of result ≡ entries_in (note_of_turn pe (local_turn d p cache i scan pe h))
-    entries_told h needs some none = ap entries_of (committed_is h needs some none) ∙ sym (local_tells h needs).told
+    pub entries_told : (h : Hand) → (IsOperating h → result ≡ commit_of (turn d m pe h)) → ((IsOperating h → ⊥) → result ≡ None) → entries_of result ≡ entries_in (note_of_turn pe (local_turn d p cache i scan pe h))
+    entries_told h some none = ap entries_of (committed_is h some none) ∙ sym (local_tells h).told
+
+-- so does the turn of the hardware's processor where no memory is to be copied
+pub turn_tells : (h : Hardware) (p : ℕ) → copied_memory h.desc (copies h.layout h.memories) ≡ None → (o : Outside) → TellsCommit p (turn h.desc (machine_of h o) p ((machine_of h o).hand p))
+turn_tells h p uncopied o = subst (TellsCommit p) (sym (turn_is h.desc (machine_of h o) p uncopied)) (local_tells h.desc (copies h.layout h.memories) (processor_of h p).cache (slice_index h.incarnations) (slice_index h.scan p) p (processor_of h p).hand)

@@ -15,14 +15,15 @@ use Rattle.seq_turns.specs.Machines.{Machine, Turn}
 use Rattle.seq_turns.specs.Processors.{turn}
 use Rattle.seq_turns.specs.Allowed.{Allowed}
 use Rattle.seq_turns.specs.Events.{happens, note, note_of_turn}
-use Rattle.seq_fits.specs.Fit.{Fit}
-use Rattle.seq_fits.specs.Unfailed.{IsUnfailed, IsBuilt}
-use Rattle.seq_fits.proofs.Gives.{fit_gives}
-use Rattle.seq_fits.proofs.Unfailed.{events_keep_unfailed}
+use Rattle.seq_stands.specs.Fit.{Fit, ClearsInOrder}
+use Rattle.seq_stands.proofs.FitGives.{fit_gives}
+use Rattle.seq_stands.proofs.Fitting.{events_keep_fit}
 use Rattle.seq_machine.specs.Here.{here, commit_of}
 use Rattle.seq_machine.specs.Needs.{IsOperating}
 use Rattle.seq_machine.specs.Plain.{Outside, processor_of, idle_processor, machine_of, outside_of, IsOutside}
 use Rattle.seq_machine.specs.Starting.{no_outside}
+use Rattle.seq_machine.specs.Settling.{held_copies}
+use Rattle.seq_machine.specs.Built.{IsBuilt, MemoriesServe}
 use Rattle.seq_machine.specs.Serving.{MayServe, sent_by, Sends, StopsAt}
 use Rattle.seq_machine.specs.Processors.{MayTurn}
 use Rattle.seq_machine.specs.Happening.{sent_in, entries_in, entries_of, StopsFor}
@@ -30,17 +31,16 @@ use Rattle.seq_machine.specs.declared.hardware.Processor.{Processor}
 use Rattle.seq_machine.specs.declared.hardware.Hardware.{Hardware}
 use Rattle.seq_machine.specs.declared.hardware.Stop.{Stop}
 use Rattle.seq_machine.proofs.Tied.{turn_is}
-use Rattle.seq_machine.proofs.Commits.{local_tells, entries_told}
+use Rattle.seq_machine.proofs.Commits.{entries_told, turn_tells}
 use Rattle.seq_machine.proofs.Outgoing.{sent_told, sends_told, nothing_committed}
 use Rattle.seq_machine.proofs.Serves.{accept_alike}
-use Rattle.seq_machine.proofs.Unchanged.{grows_same, shown_by, is_shown, fit_anywhere, unfailed_anywhere, allowed_anywhere}
+use Rattle.seq_machine.proofs.Unchanged.{grows_same, shown_by, is_shown, fit_anywhere, clears_anywhere, allowed_anywhere}
+use Rattle.seq_machine.proofs.Building.{built_serve, built_goes_on}
 
 module _ (h : Hardware) (p : ℕ) (may : MayTurn h p) (o : Outside) where
   -- a processor's turn sends nothing
   pub turn_unsent : (l : ℕ) → sent_in (note h.desc (machine_of h o) (event.Processor (record { 0 = p }))) l ≡ []
-  turn_unsent l =
-      ap (λ (t : Turn). sent_in (note_of_turn p t) l) (turn_is h.desc (machine_of h o) p may.uncopied may.undeserted)
-      ∙ (local_tells h.desc (copies h.layout h.memories) (processor_of h p).cache (slice_index h.incarnations p) (slice_index h.scan p) p (processor_of h p).hand may.needs).unsent l
+  turn_unsent l = (turn_tells h p may.uncopied o).unsent l
 
   -- what the code reads of the processor's hand is what its note says is committed
   pub commit_told : (z : Processor) → slice_get h.processors p ≡ Some z → (result : Option Entry)
@@ -52,8 +52,8 @@ module _ (h : Hardware) (p : ℕ) (may : MayTurn h p) (o : Outside) where
       let now = copies h.layout h.memories in
       let some_here = subst (λ (x : Processor). IsOperating x.hand → result ≡ commit_of (turn h.desc (here now x.cache i) p x.hand)) (sym is) (some h.desc now i p) in
       let none_here = subst (λ (x : Processor). (IsOperating x.hand → ⊥) → result ≡ None) (sym is) none in
-      entries_told h.desc now (processor_of h p).cache i (slice_index h.scan p) p result (processor_of h p).hand may.needs some_here none_here
-      ∙ ap (λ (t : Turn). entries_in (note_of_turn p t)) (sym (turn_is h.desc (machine_of h o) p may.uncopied may.undeserted))
+      entries_told h.desc now (processor_of h p).cache (slice_index h.incarnations) (slice_index h.scan p) p result (processor_of h p).hand some_here none_here
+      ∙ ap (λ (t : Turn). entries_in (note_of_turn p t)) (sym (turn_is h.desc (machine_of h o) p may.uncopied))
 
 module _ (d : MachineDesc) (m : Machine) (i : ℕ) where
   -- an I/O element's turn by its note
@@ -92,20 +92,23 @@ may_serve d m i described fits there =
 -- what the next event needs
 pub record IsKept (h : Hardware) : Type 0 where
   pub fit : Fit h.desc (machine_of h no_outside)
-  pub unfailed : IsUnfailed h.desc (machine_of h no_outside)
+  pub serving : MemoriesServe h.desc (held_copies h)
 
-module _ (old new : Hardware) (e : Event) (described : IsDescription old.desc) (fits : Fit old.desc (machine_of old no_outside)) (unfailed : IsUnfailed old.desc (machine_of old no_outside)) (built : IsBuilt e) (allowed : Allowed old.desc (machine_of old no_outside) e) where
+module _ (old new : Hardware) (e : Event) (described : IsDescription old.desc) (fits : Fit old.desc (machine_of old no_outside)) (serving : MemoriesServe old.desc (held_copies old)) (clears : ClearsInOrder old.desc (machine_of old no_outside)) (built : IsBuilt e) (allowed : Allowed old.desc (machine_of old no_outside) e) where
   pub made_kept : (o : Outside) → new.desc ≡ old.desc → machine_of new (outside_of (happens old.desc (machine_of old o) e)) ≡ happens old.desc (machine_of old o) e → IsKept new
   made_kept o desc same =
-      let after = events_keep_unfailed old.desc (machine_of old o) e described (fit_anywhere old.desc old no_outside o fits) built (allowed_anywhere old.desc old no_outside o e built allowed) (unfailed_anywhere old.desc old no_outside o unfailed) in
+      let m = machine_of old o in
+      let fits_after : Fit old.desc (happens old.desc m e) =
+      events_keep_fit old.desc m e described (allowed_anywhere old.desc old no_outside o e built allowed) (built_goes_on old.desc m e built serving) (clears_anywhere old.desc old no_outside o clears) (fit_anywhere old.desc old no_outside o fits)
+      in
       let at = outside_of (happens old.desc (machine_of old o) e) in
-      let fit_new : Fit old.desc (machine_of new at) = subst (λ (m : Machine). Fit old.desc m) (sym same) after.fits in
-      let unfailed_new : IsUnfailed old.desc (machine_of new at) = subst (λ (m : Machine). IsUnfailed old.desc m) (sym same) after.unfailed in
+      let fit_new : Fit old.desc (machine_of new at) = subst (λ (m : Machine). Fit old.desc m) (sym same) fits_after in
+      let serve_new : MemoriesServe old.desc (held_copies new) = subst (λ (n : Machine). MemoriesServe old.desc n.copies) (sym same) (built_serve old.desc m e built serving) in
       record {
         fit = subst (λ (d : MachineDesc). Fit d (machine_of new no_outside)) (sym desc) (fit_anywhere old.desc new at no_outside fit_new);
-        unfailed = subst (λ (d : MachineDesc). IsUnfailed d (machine_of new no_outside)) (sym desc) (unfailed_anywhere old.desc new at no_outside unfailed_new);
+        serving = subst (λ (d : MachineDesc). MemoriesServe d (held_copies new)) (sym desc) serve_new;
       }
 
   pub call_kept : (r : Result Note Stop) (o : Outside) → new.desc ≡ old.desc → OnOk r (machine_of new (outside_of (happens old.desc (machine_of old o) e)) ≡ happens old.desc (machine_of old o) e) → OnErr r (new ≡ old) → IsKept new
   call_kept (Ok n) o desc same err = made_kept o desc same
-  call_kept (Err s) o desc same err = subst IsKept (sym err) (record { fit = fits; unfailed = unfailed })
+  call_kept (Err s) o desc same err = subst IsKept (sym err) (record { fit = fits; serving = serving })

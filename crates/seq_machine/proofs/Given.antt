@@ -17,11 +17,11 @@ use Rattle.seq_turns.specs.declared.hand.ReleaseAt.{ReleaseAt}
 use Rattle.seq_turns.specs.declared.hand.ReleaseAt.TheVariants as release
 use Rattle.seq_turns.specs.Machines.{Machine}
 use Rattle.seq_stands.specs.Hands.{IsHand, IsFlush, IsFlushAt, IsLock, released_word}
-use Rattle.seq_fits.specs.Hands.{HandFits, ProcessFits, MaskFits}
-use Rattle.seq_fits.specs.Fit.{FlushAtFits, HandHolds, Fit}
-use Rattle.seq_fits.specs.Numbers.{HandBelow, NumbersFit}
-use Rattle.seq_fits.specs.Gives.{HandGives, Gives}
-use Rattle.seq_fits.proofs.Gives.{fit_gives}
+use Rattle.seq_stands.specs.FitHands.{HandFits, ProcessFits, MaskFits}
+use Rattle.seq_stands.specs.Fit.{FlushAtFits, HandHolds, Fit}
+use Rattle.seq_stands.specs.FitNumbers.{HandBelow, NumbersFit}
+use Rattle.seq_stands.specs.FitGives.{HandGives, Gives}
+use Rattle.seq_stands.proofs.FitGives.{fit_gives}
 use Rattle.seq_machine.specs.Needs.{MayBeSaved, MayBeTakenUp, IsLockIn, FlushNeeds, FlushAtNeeds, UnlockNeeds, LeaveNeeds, NeedsOf}
 
 module _ (d : MachineDesc) (m : Machine) (described : IsDescription d) (fits : Fit d m) (numbers : NumbersFit d m) (p : ℕ) (there : p < d.processors) where

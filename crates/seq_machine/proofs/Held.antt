@@ -5,8 +5,8 @@ use Rattle.std.proofs.lemmas.Nat.Bits.{bit_at-zero}
 use Rattle.seq_words.specs.Masks.{has_bit}
 use Rattle.seq_kernel.specs.Views.{Blocks}
 use Rattle.seq_ruling.specs.Lowest.{lowest, or_else}
-use Rattle.seq_settled.specs.Committed.{context_at}
-use Rattle.seq_settled.specs.Going.{is_held_below, AreHeldBelow}
+use Rattle.seq_lines.specs.Committed.{context_at}
+use Rattle.seq_lines.specs.Going.{is_held_below, AreHeldBelow}
 
 one_more : (o : Option ℕ) (b : Bool) (n : ℕ) → is_some (or_else o (if b then Some n else None)) ≡ (is_some o || b)
 one_more (Some k) b n = refl

@@ -5,6 +5,8 @@ pub mod Acquiring
 pub mod RunLeft
 pub mod Tied
 pub mod Given
+pub mod Building
+pub mod Failing
 pub mod Turnable
 pub mod Unchanged
 pub mod EventParts
@@ -13,6 +15,7 @@ pub mod Commits
 pub mod Halves
 pub mod Rows
 pub mod Local
+pub mod Recovering
 pub mod Lists
 pub mod Started
 pub mod Serves
@@ -23,3 +26,4 @@ pub mod Readiness
 pub mod Making
 pub mod Settleable
 pub mod Staged
+pub mod Clearing

@@ -7,12 +7,13 @@ use Rattle.seq_shelf.specs.Told.{LineView}
 use Rattle.seq_turns.specs.Machines.{Machine}
 use Rattle.seq_turns.specs.Allowed.{Allowed}
 use Rattle.seq_turns.specs.Events.{happens, run}
-use Rattle.seq_fits.specs.Unfailed.{IsBuilt}
+use Rattle.seq_stands.specs.Fit.{ClearsInOrder}
 use Rattle.seq_machine.specs.declared.hardware.Hardware.{Hardware}
 use Rattle.seq_machine.specs.Plain.{Outside, machine_of, outside_of, IsOutside}
 use Rattle.seq_machine.specs.Starting.{no_outside}
+use Rattle.seq_machine.specs.Built.{IsBuilt}
 use Rattle.seq_machine.specs.Making.{MayMake, MayMakeAll}
-use Rattle.seq_machine.proofs.Unchanged.{allowed_anywhere}
+use Rattle.seq_machine.proofs.Unchanged.{allowed_anywhere, clears_anywhere}
 
 -- these events of the hardware now, with an outside that the lines show, lead where those led with the outside before
 pub record LeadsTo (d : MachineDesc) (left all : List Event) (old now : Hardware) (lines : List LineView) (marks : List Bool) (o : Outside) : Type 0 where
@@ -45,8 +46,11 @@ module _ (es : List Event) (i : ℕ) (e : Event) (inside : i < length es) where
     pub next_allowed : Allowed old.desc (machine_of old no_outside) (get_or es i e)
     next_allowed = allowed_anywhere old.desc old o no_outside (get_or es i e) both.0 both.1
 
+    pub next_clears : ClearsInOrder old.desc (machine_of old no_outside)
+    next_clears = clears_anywhere old.desc old o no_outside both.2
+
     pub next_left : MayMake old.desc (drop (i + 1) es) (happens old.desc (machine_of old o) (get_or es i e))
-    next_left = both.2
+    next_left = both.3
 
   module _ (old new : Hardware) (lines new_lines : List LineView) (marks new_marks : List Bool) where
     pub next_may : new.desc ≡ old.desc → Makes old new (get_or es i e) lines marks → Shows old (get_or es i e) lines marks new_lines new_marks → MayMakeAll (drop i es) old lines marks → MayMakeAll (drop (i + 1) es) new new_lines new_marks

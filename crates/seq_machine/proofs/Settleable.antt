@@ -1,12 +1,11 @@
 -- What is read to see whether the machine is settled may be read where the machine fits.
-use Rattle.std.proofs.Common.{ℕ}
 use Rattle.seq_words.specs.Description.{IsDescription}
 use Rattle.seq_words.specs.declared.description.MachineDesc.{MachineDesc}
 use Rattle.seq_turns.specs.Machines.{Machine}
-use Rattle.seq_settled.specs.Committed.{context_at}
-use Rattle.seq_fits.specs.Fit.{Fit}
-use Rattle.seq_fits.proofs.Gives.{fit_gives}
-use Rattle.seq_fits.proofs.Saved.{first_fits}
+use Rattle.seq_lines.specs.Committed.{context_at}
+use Rattle.seq_stands.specs.Fit.{Fit}
+use Rattle.seq_stands.proofs.FitGives.{fit_gives}
+use Rattle.seq_stands.proofs.FitSaved.{first_fits}
 use Rattle.seq_machine.specs.Settling.{MayBeSettled}
 
 pub settled_given : (d : MachineDesc) (m : Machine) → IsDescription d → Fit d m → MayBeSettled d m.copies

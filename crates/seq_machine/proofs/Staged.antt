@@ -100,10 +100,10 @@ one_owned n image (suc l) =
     let past : nat_lt (suc l) 1 ≡ false = le-ltb (suc l) 1 (omega arith) in
     rw (none, past) refl
 
-pub alone-is : (quantum n : ℕ) (image : List ℕ) → IsBetween 1 10000 quantum → IsSize 65536 n → length image ≤ n → IsDescription (staged 1 1 quantum [] (process_of_size n image 1 0 ∷ []))
-alone-is quantum n image within is fits =
-    described 1 1 quantum [] (process_of_size n image 1 0 ∷ []) 1
-    (between 1 8 1 (omega arith) (omega arith)) (between 1 4 1 (omega arith) (omega arith)) within (omega arith) tt
+pub alone-is : (processors quantum n : ℕ) (image : List ℕ) → IsBetween 1 8 processors → IsBetween 1 10000 quantum → IsSize 65536 n → length image ≤ n → IsDescription (staged processors 1 quantum [] (process_of_size n image 1 0 ∷ []))
+alone-is processors quantum n image few within is fits =
+    described processors 1 quantum [] (process_of_size n image 1 0 ∷ []) 1
+    few (between 1 4 1 (omega arith) (omega arith)) within (omega arith) tt
     (between 1 16 1 (omega arith) (omega arith)) (process 0 n image 1 0 is fits (omega (arith, one_of_ones)) (omega arith), tt)
     (omega arith) (rw one_of_ones refl) (one_owned n image)
 

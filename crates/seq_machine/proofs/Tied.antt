@@ -31,15 +31,16 @@ use Rattle.seq_turns.specs.Machines.Turn.{Moves, Looks, Copies_unit, Stops}
 use Rattle.seq_turns.specs.Reading.{status_word, lock_word, holder, write_word, copied_memory}
 use Rattle.seq_turns.specs.Causes.{agree, follows, flushes, finds, released}
 use Rattle.seq_turns.specs.Operations.{goes}
-use Rattle.seq_turns.specs.Processors.{is_free, next_process, deserted, after_step, runs, turn}
+use Rattle.seq_turns.specs.Processors.{is_free, next_process, deserted, seeks, after_step, runs, turn}
 use Rattle.seq_turns.specs.Events.{after_turn, note_of_turn}
 use Rattle.seq_turns.proofs.Functions.{update_cases}
-use Rattle.seq_machine.specs.Here.{here, turned, change_of}
+use Rattle.seq_machine.specs.Here.{here, among, turned, change_of}
 use Rattle.seq_machine.specs.Plain.{Outside, processor_of, idle_processor, machine_of, outside_of}
 use Rattle.seq_machine.specs.Processors.{local_turn, processor_after, note_left, cursor_after, incarnations_after, noted}
 use Rattle.seq_machine.specs.declared.hardware.Processor.{Processor}
 use Rattle.seq_machine.specs.declared.hardware.Hardware.{Hardware}
 use Rattle.seq_machine.proofs.Local.{operations_are_local}
+use Rattle.seq_machine.proofs.Recovering.{recovery_is_local}
 
 -- a list that is changed at one place is a function changed at that number, whatever is read of its elements
 pub set_is : {A B : Type 0} → (f : A → B) (xs : List A) (k : ℕ) (y none : A) → k < length xs → (λ (j : ℕ). f (slice_index_or (slice_set xs k y) j none)) ≡ update (λ j. f (slice_index_or xs j none)) k (f y)
@@ -70,43 +71,69 @@ module _ (d : MachineDesc) (m : Machine) (p : ℕ) where
   runs_own : (r : Running) → IsOwn (runs d m p r)
   runs_own r = cond_both (nat_le d.quantum r.used) (finds d m p r (m.cache p) Quantum 0) _ IsOwn (λ _. finds_own r (m.cache p) Quantum 0) (λ _. let t = step_of d m.copies r (m.cache p) in step_own r t t.outcome)
 
-local_own : (d : MachineDesc) (p : Copies) (cache : Changes) (i scan pe : ℕ) (h : Hand) → IsOwn (local_turn d p cache i scan pe h)
+seeks_own : (d : MachineDesc) (m : Machine) (p : ℕ) (found : Option ℕ) → IsOwn (seeks d m p found)
+seeks_own d m p (Some q) = tt
+seeks_own d m p None = tt
+
+local_own : (d : MachineDesc) (p : Copies) (cache : Changes) (i : ℕ → ℕ) (scan pe : ℕ) (h : Hand) → IsOwn (local_turn d p cache i scan pe h)
 local_own d p cache i scan pe hand.Down = tt
-local_own d p cache i scan pe hand.Seek = tt
+local_own d p cache i scan pe hand.Seek = seeks_own d (among p cache i scan) pe (deserted d (among p cache i scan))
 local_own d p cache i scan pe (hand.Claiming q c) = tt
-local_own d p cache i scan pe (hand.Running r) = runs_own d (here p cache i) pe r
+local_own d p cache i scan pe (hand.Running r) = runs_own d (here p cache (i pe)) pe r
 local_own d p cache i scan pe (hand.Acquiring r t c) = cond_both (is_taken (shape_of d) p c.at true)
-    (finds d (here p cache i) pe r cache (Wait (Lock t (record { 0 = word_at p c.at true - 1 }))) 0) _ IsOwn (λ _. finds_own d (here p cache i) pe r cache (Wait (Lock t (record { 0 = word_at p c.at true - 1 }))) 0) (λ _. tt)
+    (finds d (here p cache (i pe)) pe r cache (Wait (Lock t (record { 0 = word_at p c.at true - 1 }))) 0) _ IsOwn (λ _. finds_own d (here p cache (i pe)) pe r cache (Wait (Lock t (record { 0 = word_at p c.at true - 1 }))) 0) (λ _. tt)
 local_own d p cache i scan pe (hand.Flushing r cause mask f) = tt
 local_own d p cache i scan pe (hand.Unlocking r cause mask l) = tt
 local_own d p cache i scan pe (hand.Leaving q l) = tt
 local_own d p cache i scan pe (hand.Recovering r) = tt
 
+-- a turn that moves a running process or stops its processor leaves the cursor
+pub runs_cursor : (d : MachineDesc) (m : Machine) (p scan : ℕ) (r : Running) → cursor_after (runs d m p r) scan ≡ scan
+runs_cursor d m p scan r = cond_both (nat_le d.quantum r.used) (finds d m p r (m.cache p) Quantum 0) _ (λ (t : Turn). cursor_after t scan ≡ scan)
+    (λ _. finds_cursor r (m.cache p) Quantum 0) (λ _. let t = step_of d m.copies r (m.cache p) in step_cursor t t.outcome)
+  where
+    finds_cursor : (r : Running) (cache : Changes) (cause : Cause) (mask : ℕ) → cursor_after (finds d m p r cache cause mask) scan ≡ scan
+    finds_cursor r cache cause mask = cond_both (r.steps == 0) (Moves (record (idles m p) { hand = follows d r cause mask; cache = cache; note = note.Found r.pid cause })) _ (λ (t : Turn). cursor_after t scan ≡ scan) (λ _. refl)
+        (λ _. cond_both (agree r.pair) (Moves (record (idles m p) { hand = flushes m p r cause mask; cache = cache; note = note.Found r.pid cause })) Stops (λ (t : Turn). cursor_after t scan ≡ scan) (λ _. refl) (λ _. refl))
+
+    step_cursor : (t : Turned) (o : Outcome) → cursor_after (after_step d m p r t o) scan ≡ scan
+    step_cursor t outcome.Done = refl
+    step_cursor t (outcome.Claim s) = cond_both (is_taken (shape_of d) m.copies (lock_word d s.0) false)
+        (finds d m p r (m.cache p) (Wait (Lock s (record { 0 = word_at m.copies (lock_word d s.0) false - 1 }))) 0) _ (λ (t : Turn). cursor_after t scan ≡ scan)
+        (λ _. finds_cursor r (m.cache p) (Wait (Lock s (record { 0 = word_at m.copies (lock_word d s.0) false - 1 }))) 0) (λ _. refl)
+    step_cursor t (outcome.NeedsFlush cause) = finds_cursor t.running t.cache cause (released r.held cause)
+    step_cursor t (outcome.Waits reason) = finds_cursor r (m.cache p) (Wait reason) 0
+    step_cursor t outcome.Diverged = refl
+
 -- the turn of a running process depends on the memories, and on the cache and the incarnation of its processor
 runs_local : (d : MachineDesc) (m : Machine) (p : ℕ) (r : Running) → runs d m p r ≡ runs d (here m.copies (m.cache p) (m.incarnation p)) p r
 runs_local d m p r = refl
 
-module _ (d : MachineDesc) (m : Machine) (p : ℕ) (uncopied : copied_memory d m.copies ≡ None) (undeserted : deserted d m ≡ None) where
-  -- where nothing is to be copied and nobody to be recovered, a turn is local
-  turn_local : (h : Hand) → m.hand p ≡ h → turn d m p h ≡ local_turn d m.copies (m.cache p) (m.incarnation p) (m.scan p) p h
-  turn_local hand.Down is = λ i. Moves (record (idles m p) { hand = is i })
-  turn_local hand.Seek is = rw (uncopied, undeserted) (λ i. Looks (next_process d (m.scan p)) (
+module _ (d : MachineDesc) (m : Machine) (p : ℕ) (uncopied : copied_memory d m.copies ≡ None) where
+  seeks_local : (found : Option ℕ) → m.hand p ≡ hand.Seek → seeks d m p found ≡ seeks d (among m.copies (m.cache p) m.incarnation (m.scan p)) p found
+  seeks_local (Some q) is = refl
+  seeks_local None is = λ i. Looks (next_process d (m.scan p)) (
       if is_free d m (m.scan p)
       then goes m p (write_word d m.copies (m.scan p) 0 false (word_of (Run (holder m p)))) (hand.Claiming (record { 0 = m.scan p }) (record { at = status_word (m.scan p); value = word_of (Run (holder m p)); stage = record {} }))
-      else record (idles m p) { hand = is i; note = note.Looked (record { 0 = m.scan p }) }))
+      else record (idles m p) { hand = is i; note = note.Looked (record { 0 = m.scan p }) })
+
+  -- where nothing is to be copied, a turn is local
+  turn_local : (h : Hand) → m.hand p ≡ h → turn d m p h ≡ local_turn d m.copies (m.cache p) m.incarnation (m.scan p) p h
+  turn_local hand.Down is = λ i. Moves (record (idles m p) { hand = is i })
+  turn_local hand.Seek is = rw uncopied (seeks_local (deserted d m) is)
   turn_local (hand.Claiming q c) is = operations_are_local d m p (hand.Claiming q c) tt
   turn_local (hand.Running r) is = rw uncopied (runs_local d m p r)
   turn_local (hand.Acquiring r t c) is = operations_are_local d m p (hand.Acquiring r t c) tt
   turn_local (hand.Flushing r cause mask f) is = operations_are_local d m p (hand.Flushing r cause mask f) tt
   turn_local (hand.Unlocking r cause mask l) is = operations_are_local d m p (hand.Unlocking r cause mask l) tt
   turn_local (hand.Leaving q l) is = operations_are_local d m p (hand.Leaving q l) tt
-  turn_local (hand.Recovering r) is = refl
+  turn_local (hand.Recovering r) is = ap Moves (recovery_is_local d m p (m.incarnation p) r)
 
-  pub turn_is : turn d m p (m.hand p) ≡ local_turn d m.copies (m.cache p) (m.incarnation p) (m.scan p) p (m.hand p)
+  pub turn_is : turn d m p (m.hand p) ≡ local_turn d m.copies (m.cache p) m.incarnation (m.scan p) p (m.hand p)
   turn_is = turn_local (m.hand p) refl
 
   pub turn_own : IsOwn (turn d m p (m.hand p))
-  turn_own = subst IsOwn (sym turn_is) (local_own d m.copies (m.cache p) (m.incarnation p) (m.scan p) p (m.hand p))
+  turn_own = subst IsOwn (sym turn_is) (local_own d m.copies (m.cache p) m.incarnation (m.scan p) p (m.hand p))
 
 -- a turn's note, by what is left of it
 pub note_is : (p : ℕ) (t : Turn) → IsOwn t → note_of_turn p t ≡ noted p (note_left (turned t))
@@ -166,26 +193,23 @@ module _ (h : Hardware) (o : Outside) (p : ℕ) (memories : Memories) (few : p <
   }
 
 -- What the code's turn of processor p leaves, where it read the processor, its incarnation and its cursor in their lists.
-module _ (h : Hardware) (o : Outside) (p : ℕ) (few : p < length h.processors) (scans : p < length h.scan) (incarnations : p < length h.incarnations) (uncopied : copied_memory h.desc (copies h.layout h.memories) ≡ None) (undeserted : deserted h.desc (machine_of h o) ≡ None) where
-  module _ (z : Processor) (i scan : ℕ) (z_is : slice_get h.processors p ≡ Some z) (i_is : slice_get h.incarnations p ≡ Some i) (scan_is : slice_get h.scan p ≡ Some scan) where
+module _ (h : Hardware) (o : Outside) (p : ℕ) (few : p < length h.processors) (scans : p < length h.scan) (incarnations : p < length h.incarnations) (uncopied : copied_memory h.desc (copies h.layout h.memories) ≡ None) where
+  module _ (z : Processor) (xs : List ℕ) (scan : ℕ) (z_is : slice_get h.processors p ≡ Some z) (xs_is : xs ≡ h.incarnations) (scan_is : slice_get h.scan p ≡ Some scan) where
     processor_is : processor_of h p ≡ z
     processor_is = get_or_from_slice_get h.processors p z (idle_processor h.desc) z_is
-
-    incarnation_is : slice_index h.incarnations p ≡ i
-    incarnation_is = get_or_from_slice_get h.incarnations p i 0 i_is
 
     cursor_is : slice_index h.scan p ≡ scan
     cursor_is = get_or_from_slice_get h.scan p scan 0 scan_is
 
-    is_table : local_turn h.desc (copies h.layout h.memories) z.cache i scan p z.hand ≡ turn h.desc (machine_of h o) p ((machine_of h o).hand p)
+    is_table : local_turn h.desc (copies h.layout h.memories) z.cache (slice_index xs) scan p z.hand ≡ turn h.desc (machine_of h o) p ((machine_of h o).hand p)
     is_table =
-        (λ j. local_turn h.desc (copies h.layout h.memories) (sym processor_is j).cache (sym incarnation_is j) (sym cursor_is j) p (sym processor_is j).hand)
-        ∙ sym (turn_is h.desc (machine_of h o) p uncopied undeserted)
+        (λ j. local_turn h.desc (copies h.layout h.memories) (sym processor_is j).cache (slice_index (xs_is j)) (sym cursor_is j) p (sym processor_is j).hand)
+        ∙ sym (turn_is h.desc (machine_of h o) p uncopied)
 
     own : IsOwn (turn h.desc (machine_of h o) p ((machine_of h o).hand p))
-    own = turn_own h.desc (machine_of h o) p uncopied undeserted
+    own = turn_own h.desc (machine_of h o) p uncopied
 
-    module _ (n : Option Note) (n_is : n ≡ note_left (turned (local_turn h.desc (copies h.layout h.memories) z.cache i scan p z.hand))) where
+    module _ (n : Option Note) (n_is : n ≡ note_left (turned (local_turn h.desc (copies h.layout h.memories) z.cache (slice_index xs) scan p z.hand))) where
       left_is : n ≡ note_left (turned (turn h.desc (machine_of h o) p ((machine_of h o).hand p)))
       left_is = n_is ∙ ap (λ t. note_left (turned t)) is_table
 
@@ -193,9 +217,9 @@ module _ (h : Hardware) (o : Outside) (p : ℕ) (few : p < length h.processors) 
       turn_noted = note_is p (turn h.desc (machine_of h o) p ((machine_of h o).hand p)) own ∙ ap (noted p) (sym left_is)
 
       pub turn_made : (y : Processor) (cursor : ℕ) (memories : Memories) (numbers : List ℕ)
-          → y ≡ processor_after (local_turn h.desc (copies h.layout h.memories) z.cache i scan p z.hand) z
-          → cursor ≡ cursor_after (local_turn h.desc (copies h.layout h.memories) z.cache i scan p z.hand) scan
-          → copies h.layout memories ≡ copies_after (change_of (local_turn h.desc (copies h.layout h.memories) z.cache i scan p z.hand)) (copies h.layout h.memories)
+          → y ≡ processor_after (local_turn h.desc (copies h.layout h.memories) z.cache (slice_index xs) scan p z.hand) z
+          → cursor ≡ cursor_after (local_turn h.desc (copies h.layout h.memories) z.cache (slice_index xs) scan p z.hand) scan
+          → copies h.layout memories ≡ copies_after (change_of (local_turn h.desc (copies h.layout h.memories) z.cache (slice_index xs) scan p z.hand)) (copies h.layout h.memories)
           → numbers ≡ incarnations_after n h.incarnations p
           → machine_of (record h { processors = slice_set h.processors p y; memories = memories; scan = slice_set h.scan p cursor; incarnations = numbers }) (outside_of (after_turn h.desc (machine_of h o) p (turn h.desc (machine_of h o) p ((machine_of h o).hand p))))
           ≡ after_turn h.desc (machine_of h o) p (turn h.desc (machine_of h o) p ((machine_of h o).hand p))

@@ -1,4 +1,4 @@
--- A processor may take its turn where the machine fits and nothing has failed.
+-- A processor may take its turn where the machine fits and every memory is in service.
 use Rattle.std.proofs.Common.{◌≡◌, ℕ, ◌^◌, ◌<◌, Bool, true, false, not, Option, Some, None, inl, inr, refl, ap, sym, ◌∙◌, subst, arith}
 use Rattle.std.specs.Prelude.{IsSome, unwrap_or}
 use Rattle.std.proofs.lemmas.Bool.{cond-true, cond-false, and_parts, eq-eqb, cases_Bool, false≢true}
@@ -6,28 +6,34 @@ use Rattle.seq_words.specs.Description.{IsDescription}
 use Rattle.seq_words.specs.declared.description.MachineDesc.{MachineDesc}
 use Rattle.seq_layout.specs.Shapes.{shape_of}
 use Rattle.seq_layout.specs.Copies.{Copies, serves}
+use Rattle.seq_status.specs.declared.status.Holder.{Holder}
 use Rattle.seq_status.specs.declared.status.Status.{Status}
 use Rattle.seq_status.specs.declared.status.Status.TheVariants.{Idle, Run, Pass1, Pass2, Back, Forward}
 use Rattle.seq_status.specs.Words.{IsStatusWord, status_of}
 use Rattle.seq_locks.specs.Turns.{is_taken}
 use Rattle.seq_process.specs.declared.running.Running.{Running}
+use Rattle.seq_turns.specs.declared.recovery.RecoveryAt.{RecoveryAt}
+use Rattle.seq_turns.specs.declared.recovery.RecoveryAt.TheVariants as recovery
 use Rattle.seq_turns.specs.declared.hand.Hand.{Hand}
 use Rattle.seq_turns.specs.declared.hand.Hand.TheVariants as hand
 use Rattle.seq_turns.specs.Machines.{Machine}
 use Rattle.seq_turns.specs.Reading.{status_word, status_in, is_idle, ruling}
-use Rattle.seq_fits.specs.Hands.{HandFits}
-use Rattle.seq_fits.specs.Fit.{Fit}
-use Rattle.seq_fits.specs.Numbers.{HandBelow, NumbersFit}
-use Rattle.seq_fits.specs.Unfailed.{IsUnfailed, IsUnfailedHand}
-use Rattle.seq_fits.proofs.Gives.{fit_gives}
-use Rattle.seq_fits.proofs.Unfailed.{unfailed_leaves_nothing}
+use Rattle.seq_stands.specs.FitHands.{HandFits}
+use Rattle.seq_stands.specs.Hands.{IsHand, IsRecoveryAt}
+use Rattle.seq_stands.specs.Fit.{RecoveryAtFits, HandHolds, Fit}
+use Rattle.seq_stands.specs.FitNumbers.{HandBelow, NumbersFit}
+use Rattle.seq_stands.proofs.FitGives.{fit_gives}
+use Rattle.seq_recover.specs.Needs.{RecoveryNeeds}
 use Rattle.seq_machine.specs.Needs.{NeedsOf}
 use Rattle.seq_machine.specs.Plain.{machine_of, IsHardware}
 use Rattle.seq_machine.specs.Starting.{no_outside}
+use Rattle.seq_machine.specs.Settling.{held_copies}
+use Rattle.seq_machine.specs.Built.{MemoriesServe}
 use Rattle.seq_machine.specs.Processors.{RunNeeds, SeekNeeds, TurnNeeds, MayTurn}
 use Rattle.seq_machine.specs.declared.hardware.Hardware.{Hardware}
 use Rattle.seq_status.proofs.WordLaws.{words_are_written_back, words_of_the_format_are_read}
 use Rattle.seq_machine.proofs.Given.{needs_given}
+use Rattle.seq_machine.proofs.Building.{uncopied}
 
 -- a status word of the format that says Idle is 0
 idle_is_zero : (w : ℕ) → IsStatusWord w → is_idle (status_in w) ≡ true → w ≡ 0
@@ -54,10 +60,11 @@ untaken_is d p q format idle = elim (cases_Bool (serves (shape_of d) p q false))
   | inr away ↦ cond-false _ _ _ away
 ]
 
-module _ (d : MachineDesc) (m : Machine) (described : IsDescription d) (fits : Fit d m) (numbers : NumbersFit d m) (unfailed : IsUnfailed d m) (p : ℕ) (there : p < d.processors) where
+module _ (d : MachineDesc) (m : Machine) (described : IsDescription d) (fits : Fit d m) (numbers : NumbersFit d m) (p : ℕ) (there : p < d.processors) where
   seek_needs : SeekNeeds d m.copies (m.scan p)
   seek_needs = record {
     words = (fit_gives d m described fits).memories.ruling;
+    holders = (fit_gives d m described fits).memories.held;
     process = (fits.processors p there).scan;
     untaken = λ c i free. untaken_is d m.copies (m.scan p) (fits.words.status (m.scan p) false (fits.processors p there).scan).format (and_parts _ _ free).0;
   }
@@ -71,28 +78,39 @@ module _ (d : MachineDesc) (m : Machine) (described : IsDescription d) (fits : F
     named = λ t l. fits.words.locks t false l;
   }
 
-  turn_needs : (h : Hand) → m.hand p ≡ h → IsUnfailedHand h → HandFits d h → HandBelow (2 ^ 47) h → NeedsOf d m.copies (m.cache p) h → TurnNeeds d m.copies (m.cache p) (m.scan p) h
-  turn_needs hand.Down is un bounds few needs = absurd un
-  turn_needs hand.Seek is un bounds few needs = seek_needs
-  turn_needs (hand.Claiming q c) is un bounds few needs = needs
-  turn_needs (hand.Running r) is un bounds few needs = run_needs r bounds few
-  turn_needs (hand.Acquiring r t c) is un bounds few needs = needs
-  turn_needs (hand.Flushing r cause mask f) is un bounds few needs = needs
-  turn_needs (hand.Unlocking r cause mask l) is un bounds few needs = needs
-  turn_needs (hand.Leaving q l) is un bounds few needs = needs
-  turn_needs (hand.Recovering r) is un bounds few needs = absurd un
+  recovery_needs : (r : RecoveryAt) → IsRecoveryAt p (m.incarnation p) r → RecoveryAtFits d r → RecoveryNeeds d m.copies r
+  recovery_needs (recovery.Claimed r) own holds = record {
+    process = holds.process;
+    incarnation = subst (λ (h : Holder). h.incarnation < 2 ^ 48) (sym own.holder) (let few = numbers.incarnations p there in omega (arith, few));
+  }
+  recovery_needs (recovery.Copying r) own holds = record { process = holds.process; cursor = holds.turns }
+  recovery_needs (recovery.Locks r) own holds =
+      let loads = (fit_gives d m described fits).memories.loads r.pid.0 holds.process in
+      record { process = holds.process; cursor = holds.turns; context = record { served = loads.served; inside = loads.blocks } }
+  recovery_needs (recovery.Closing r) own holds = record { process = holds.process }
+
+  turn_needs : (h : Hand) → IsHand d p (m.incarnation p) h → HandHolds d (m.cache p).changes h → HandFits d h → HandBelow (2 ^ 47) h → NeedsOf d m.copies (m.cache p) h → TurnNeeds d m.copies (m.cache p) (m.scan p) h
+  turn_needs hand.Down own holds bounds few needs = tt
+  turn_needs hand.Seek own holds bounds few needs = seek_needs
+  turn_needs (hand.Claiming q c) own holds bounds few needs = needs
+  turn_needs (hand.Running r) own holds bounds few needs = run_needs r bounds few
+  turn_needs (hand.Acquiring r t c) own holds bounds few needs = needs
+  turn_needs (hand.Flushing r cause mask f) own holds bounds few needs = needs
+  turn_needs (hand.Unlocking r cause mask l) own holds bounds few needs = needs
+  turn_needs (hand.Leaving q l) own holds bounds few needs = needs
+  turn_needs (hand.Recovering r) own holds bounds few needs = recovery_needs r own holds
 
   pub needs_there : TurnNeeds d m.copies (m.cache p) (m.scan p) (m.hand p)
-  needs_there = turn_needs (m.hand p) refl (unfailed.hands p there) (fits.processors p there).bounds (numbers.hands p there) (needs_given d m described fits numbers p there)
+  needs_there =
+      let now = fits.processors p there in
+      turn_needs (m.hand p) now.own now.holds now.bounds (numbers.hands p there) (needs_given d m described fits numbers p there)
 
-pub may_turn : (h : Hardware) (p : ℕ) → IsHardware h → Fit h.desc (machine_of h no_outside) → NumbersFit h.desc (machine_of h no_outside) → IsUnfailed h.desc (machine_of h no_outside) → p < h.desc.processors → MayTurn h p
-may_turn h p hardware fits numbers unfailed there =
+pub may_turn : (h : Hardware) (p : ℕ) → IsHardware h → Fit h.desc (machine_of h no_outside) → NumbersFit h.desc (machine_of h no_outside) → MemoriesServe h.desc (held_copies h) → p < h.desc.processors → MayTurn h p
+may_turn h p hardware fits numbers serving there =
     let m = machine_of h no_outside in
-    let left = unfailed_leaves_nothing h.desc m hardware.described fits unfailed in
     record {
       processor = there;
       incarnation = let few = numbers.incarnations p there in omega (arith, few);
-      uncopied = left.uncopied;
-      undeserted = left.undeserted;
-      needs = needs_there h.desc m hardware.described fits numbers unfailed p there;
+      uncopied = uncopied h.desc m serving;
+      needs = needs_there h.desc m hardware.described fits numbers p there;
     }

@@ -26,6 +26,10 @@ here copies cache incarnation = record {
   hung = λ l. false;
 }
 
+-- the same with the incarnation of each processor, and the process that is looked at next
+abbrev pub among : Copies → Changes → (ℕ → ℕ) → ℕ → Machine
+among copies cache incarnation scan = record (here copies cache 0) { incarnation = incarnation; scan = λ p. scan }
+
 -- what a turn leaves in the hand of its processor; copying a unit leaves no hand changed, and is no turn of a hand
 abbrev pub turned : Turn → Turned
 turned (Moves move) = Moved move.hand move.note

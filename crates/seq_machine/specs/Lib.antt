@@ -10,5 +10,6 @@ pub mod Ports
 pub mod Serving
 pub mod Happening
 pub mod Settling
+pub mod Built
 pub mod Ready
 pub mod Making

@@ -1,4 +1,4 @@
--- A turn of a processor where no memory is to be copied and no process to be recovered: what it needs, and what it leaves.
+-- A turn of a processor where no memory is to be copied: what it needs, and what it leaves.
 use Rattle.std.specs.Prelude.{◌≡◌, ℕ, ◌+◌, ◌^◌, ◌<◌, ◌≤◌, true, false, List, [], length, slice_index, slice_set, Option, Some, None}
 use Rattle.seq_words.specs.declared.description.MachineDesc.{MachineDesc}
 use Rattle.seq_words.specs.declared.kinds.Element.TheVariants as element
@@ -7,26 +7,26 @@ use Rattle.seq_layout.specs.Shapes.{shape_of}
 use Rattle.seq_layout.specs.Copies.{Copies, copies}
 use Rattle.seq_cache.specs.Changes.{Changes}
 use Rattle.seq_process.specs.declared.running.Running.{Running}
-use Rattle.seq_ruling.specs.Ruling.{HaveRulingWords}
+use Rattle.seq_ruling.specs.Ruling.{HaveRulingWords, AreHeldByOneOf}
 use Rattle.seq_kernel.specs.Bounds.{IsWithin, AreReadable}
 use Rattle.seq_kernel.specs.declared.outcomes.Note.{Note}
 use Rattle.seq_kernel.specs.declared.outcomes.Note.TheVariants.{Nothing, Stopped as StopsElement}
 use Rattle.seq_locks.specs.Turns.{is_taken, word_at}
 use Rattle.seq_turns.specs.declared.hand.Hand.{Hand}
 use Rattle.seq_turns.specs.declared.hand.Hand.TheVariants as hand
-use Rattle.seq_turns.specs.Machines.{Turn}
+use Rattle.seq_turns.specs.Machines.{Machine, Turn}
 use Rattle.seq_turns.specs.Machines.Turn.{Moves, Looks, Copies_unit, Stops}
 use Rattle.seq_io.specs.Changes.Change.{Unchanged}
 use Rattle.seq_turns.specs.Reading.{status_word, lock_word, copied_memory}
-use Rattle.seq_turns.specs.Processors.{is_free, deserted, looks, next_process, runs, turn}
-use Rattle.seq_machine.specs.Here.{here, turned, cache_after}
+use Rattle.seq_turns.specs.Processors.{is_free, deserted, seeks, runs, turn}
+use Rattle.seq_recover.specs.Needs.{RecoveryNeeds}
+use Rattle.seq_machine.specs.Here.{here, among, turned, cache_after}
 use Rattle.seq_machine.specs.Needs.{MayBeSaved, NeedsOf}
 use Rattle.seq_machine.specs.declared.turned.Turned.{Turned}
 use Rattle.seq_machine.specs.declared.turned.Turned.TheVariants as left
 use Rattle.seq_machine.specs.declared.hardware.Processor.{Processor}
 use Rattle.seq_machine.specs.declared.hardware.Hardware.{Hardware}
-use Rattle.seq_machine.specs.Plain.{processor_of, machine_of}
-use Rattle.seq_machine.specs.Starting.{no_outside}
+use Rattle.seq_machine.specs.Plain.{processor_of}
 
 -- A process may take its next step: it lives within its bounds, its context may be saved, the memories may be read, and each lock
 -- word is 0 or names a process.
@@ -37,9 +37,10 @@ pub record RunNeeds (d : MachineDesc) (p : Copies) (r : Running) : Type 0 where
   pub live : r.end ≡ Live
   pub named : (t : ℕ) → t < length d.segments → word_at p (lock_word d t) false ≤ length d.processes
 
--- Process q may be looked at: where it may be claimed, its status word isn't taken at the primary.
+-- Status words may be read, and process q may be looked at: where it may be claimed, its status word isn't taken at the primary.
 pub record SeekNeeds (d : MachineDesc) (p : Copies) (q : ℕ) : Type 0 where
   pub words : HaveRulingWords (shape_of d) p
+  pub holders : AreHeldByOneOf d.processors (shape_of d) p
   pub process : q < length d.processes
   pub untaken : (c : Changes) (i : ℕ) → is_free d (here p c i) q ≡ true → is_taken (shape_of d) p (status_word q) false ≡ false
 
@@ -53,19 +54,23 @@ TurnNeeds d p cache scan (hand.Acquiring r t c) = NeedsOf d p cache (hand.Acquir
 TurnNeeds d p cache scan (hand.Flushing r cause mask f) = NeedsOf d p cache (hand.Flushing r cause mask f)
 TurnNeeds d p cache scan (hand.Unlocking r cause mask l) = NeedsOf d p cache (hand.Unlocking r cause mask l)
 TurnNeeds d p cache scan (hand.Leaving q l) = NeedsOf d p cache (hand.Leaving q l)
-TurnNeeds d p cache scan (hand.Recovering r) = ⊥
+TurnNeeds d p cache scan (hand.Recovering r) = RecoveryNeeds d p r
 
--- the turn of processor pe in its i-th incarnation, by what it reads
-abbrev pub local_turn : MachineDesc → Copies → Changes → ℕ → ℕ → ℕ → Hand → Turn
+-- a processor that seeks recovers the lowest process whose holder isn't live, else it looks at a process
+abbrev pub seeks_among : MachineDesc → Machine → ℕ → Turn
+seeks_among d m pe = seeks d m pe (deserted d m)
+
+-- the turn of processor pe by what it reads; the incarnations of others are read by one that seeks
+abbrev pub local_turn : MachineDesc → Copies → Changes → (ℕ → ℕ) → ℕ → ℕ → Hand → Turn
 local_turn d p cache i scan pe hand.Down = Moves (record { change = Unchanged; hand = hand.Down; cache = cache; commit = None; note = Nothing })
-local_turn d p cache i scan pe hand.Seek = Looks (next_process d scan) (looks d (here p cache i) pe scan)
-local_turn d p cache i scan pe (hand.Claiming q c) = turn d (here p cache i) pe (hand.Claiming q c)
-local_turn d p cache i scan pe (hand.Running r) = runs d (here p cache i) pe r
-local_turn d p cache i scan pe (hand.Acquiring r t c) = turn d (here p cache i) pe (hand.Acquiring r t c)
-local_turn d p cache i scan pe (hand.Flushing r cause mask f) = turn d (here p cache i) pe (hand.Flushing r cause mask f)
-local_turn d p cache i scan pe (hand.Unlocking r cause mask l) = turn d (here p cache i) pe (hand.Unlocking r cause mask l)
-local_turn d p cache i scan pe (hand.Leaving q l) = turn d (here p cache i) pe (hand.Leaving q l)
-local_turn d p cache i scan pe (hand.Recovering r) = turn d (here p cache i) pe (hand.Recovering r)
+local_turn d p cache i scan pe hand.Seek = seeks_among d (among p cache i scan) pe
+local_turn d p cache i scan pe (hand.Claiming q c) = turn d (here p cache (i pe)) pe (hand.Claiming q c)
+local_turn d p cache i scan pe (hand.Running r) = runs d (here p cache (i pe)) pe r
+local_turn d p cache i scan pe (hand.Acquiring r t c) = turn d (here p cache (i pe)) pe (hand.Acquiring r t c)
+local_turn d p cache i scan pe (hand.Flushing r cause mask f) = turn d (here p cache (i pe)) pe (hand.Flushing r cause mask f)
+local_turn d p cache i scan pe (hand.Unlocking r cause mask l) = turn d (here p cache (i pe)) pe (hand.Unlocking r cause mask l)
+local_turn d p cache i scan pe (hand.Leaving q l) = turn d (here p cache (i pe)) pe (hand.Leaving q l)
+local_turn d p cache i scan pe (hand.Recovering r) = turn d (here p cache (i pe)) pe (hand.Recovering r)
 
 -- A processor that stops loses what it is about, and its changes.
 abbrev pub hand_left : Turned → Hand
@@ -102,11 +107,9 @@ abbrev pub incarnations_after : Option Note → List ℕ → ℕ → List ℕ
 incarnations_after (Some note) incarnations pe = incarnations
 incarnations_after None incarnations pe = slice_set incarnations pe (slice_index incarnations pe + 1)
 
--- Processor pe of the hardware may take a turn: no memory is to be copied, no process to be recovered, and all that the turn needs
--- is there.
+-- Processor pe of the hardware may take a turn: no memory is to be copied, and all that the turn needs is there.
 pub record MayTurn (h : Hardware) (pe : ℕ) : Type 0 where
   pub processor : pe < h.desc.processors
   pub incarnation : slice_index h.incarnations pe < 2 ^ 48
   pub uncopied : copied_memory h.desc (copies h.layout h.memories) ≡ None
-  pub undeserted : deserted h.desc (machine_of h no_outside) ≡ None
   pub needs : TurnNeeds h.desc (copies h.layout h.memories) (processor_of h pe).cache (slice_index h.scan pe) (processor_of h pe).hand

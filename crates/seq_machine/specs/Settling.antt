@@ -9,7 +9,7 @@ use Rattle.seq_ruling.specs.Ruling.{AreHeldByOneOf}
 use Rattle.seq_kernel.specs.Views.{Blocks}
 use Rattle.seq_io.specs.Bounds.{AreReadable}
 use Rattle.seq_io.specs.declared.element.PortState.{PortState}
-use Rattle.seq_settled.specs.Going.{HeldAreThere}
+use Rattle.seq_lines.specs.Going.{HeldAreThere}
 use Rattle.seq_machine.specs.declared.hardware.Hardware.{Hardware}
 use Rattle.seq_machine.specs.Plain.{empty_port}
 

@@ -7,11 +7,12 @@ ghost use Rattle.seq_shelf.specs.Rows.{AllAccept};
 ghost use Rattle.seq_shelf.specs.Told.{Grows};
 ghost use Rattle.seq_turns.specs.Allowed.{Allowed};
 ghost use Rattle.seq_turns.specs.Events.{happens, note};
-ghost use Rattle.seq_fits.specs.Fit.{Fit};
-ghost use Rattle.seq_fits.specs.Numbers.{NumbersFit};
-ghost use Rattle.seq_fits.specs.Unfailed.{IsUnfailed, IsBuilt};
+ghost use Rattle.seq_stands.specs.Fit.{Fit, ClearsInOrder};
+ghost use Rattle.seq_stands.specs.FitNumbers.{NumbersFit};
 ghost use Rattle.seq_machine.specs.Plain.{Outside, machine_of, outside_of, IsOutside, IsHardware};
 ghost use Rattle.seq_machine.specs.Starting.{no_outside};
+ghost use Rattle.seq_machine.specs.Settling.{held_copies};
+ghost use Rattle.seq_machine.specs.Built.{IsBuilt, MemoriesServe};
 ghost use Rattle.seq_machine.specs.Processors.{MayTurn};
 ghost use Rattle.seq_machine.specs.Happening.{sent_in, entries_in, entries_of, ChronicleStops, CountsStay, StopsAtCommit, StopsFor};
 
@@ -73,8 +74,8 @@ impl Hardware {
 
     /// Makes an event, which may be made: the machine is that of the table then, with the table's note. The lines accept the byte of
     /// a note that says so and nothing else, and the chronicle gets the entry of a note that says so. After an error nothing has
-    /// changed: the line or the chronicle that the note would have asked has a fault, or was refused memory. So far no element
-    /// fails.
+    /// changed: the line or the chronicle that the note would have asked has a fault, or was refused memory. So far processors fail
+    /// and are repaired, and recoveries are made; no other element fails, and nothing is struck or hung up.
     pub fn event<C: Chronicle>(
         &mut self,
         event: Event,
@@ -84,7 +85,8 @@ impl Hardware {
         requires hardware { IsHardware self.old }
         requires fit { Fit self.old.desc (machine_of self.old no_outside) }
         requires numbers { NumbersFit self.old.desc (machine_of self.old no_outside) }
-        requires unfailed { IsUnfailed self.old.desc (machine_of self.old no_outside) }
+        requires serving { MemoriesServe self.old.desc (held_copies self.old) }
+        requires clears { ClearsInOrder self.old.desc (machine_of self.old no_outside) }
         requires built { IsBuilt event }
         requires allowed { Allowed self.old.desc (machine_of self.old no_outside) event }
         requires lines { line_count self.old.desc ≤ length lines.old.items }
@@ -108,7 +110,7 @@ impl Hardware {
         ensures hardware { IsHardware self.new }
         ensures desc { self.new.desc ≡ self.old.desc }
         ensures fit { Fit self.new.desc (machine_of self.new no_outside) }
-        ensures unfailed { IsUnfailed self.new.desc (machine_of self.new no_outside) }
+        ensures serving { MemoriesServe self.new.desc (held_copies self.new) }
     {
         match event {
             Event::Processor(pe) => self.told_turn(pe, chronicle),
@@ -121,8 +123,11 @@ impl Hardware {
                 self.close(line);
                 Ok(Note::Made)
             }
-            Event::Fail(_) => unreachable!(),
-            Event::Repair(_) => unreachable!(),
+            Event::Fail(element) => Ok(self.fail(element)),
+            Event::Repair(element) => {
+                self.repair(element);
+                Ok(Note::Made)
+            }
             Event::Upset(_, _, _, _) => unreachable!(),
             Event::Hangup(_) => unreachable!(),
         }

@@ -10,8 +10,8 @@ ghost use Rattle.seq_layout.specs.Shapes.{shape_of, index_of};
 ghost use Rattle.seq_layout.specs.Copies.{first_block};
 ghost use Rattle.seq_kernel.specs.Views.{seen};
 ghost use Rattle.seq_turns.specs.Reading.{context_of};
-ghost use Rattle.seq_settled.specs.Committed.{context_at, state_in, input_counts};
-ghost use Rattle.seq_settled.specs.Going.{is_call, is_ecall, calls, awaits_lock, awaits_input, awaits, goes_on, AreHeldBelow, AreOwned};
+ghost use Rattle.seq_lines.specs.Committed.{context_at, state_in, input_counts};
+ghost use Rattle.seq_lines.specs.Going.{is_call, is_ecall, calls, awaits_lock, awaits_input, awaits, goes_on, AreHeldBelow, AreOwned};
 ghost use Rattle.seq_machine.specs.Plain.{Outside, machine_of, IsHardware};
 ghost use Rattle.seq_machine.specs.Settling.{MayBeSettled, held_copies, first_blocks, ports_of};
 
@@ -199,7 +199,7 @@ impl Hardware {
     }
 
     // Whether a process's acquire of a segment waits.
-    #[tactic(auto, unfolding(seq_settled::specs::Going::awaits_lock))]
+    #[tactic(auto, unfolding(seq_lines::specs::Going::awaits_lock))]
     fn awaits_lock(&self, pid: Pid, owned: u16, held: u16, segment: u32) -> bool
         requires hardware { IsHardware self.now }
         requires process { pid.0 < length self.now.desc.processes }
@@ -216,7 +216,7 @@ impl Hardware {
     }
 
     // Whether a process's read of a line waits.
-    #[tactic(auto, unfolding(seq_settled::specs::Going::awaits_input))]
+    #[tactic(auto, unfolding(seq_lines::specs::Going::awaits_input))]
     fn awaits_input(&self, pid: Pid, context: &Context, line: u32) -> bool
         requires hardware { IsHardware self.now }
         requires process { pid.0 < length self.now.desc.processes }
@@ -231,7 +231,7 @@ impl Hardware {
     }
 
     // Whether the kernel call of a process waits.
-    #[tactic(auto, unfolding(seq_settled::specs::Going::awaits))]
+    #[tactic(auto, unfolding(seq_lines::specs::Going::awaits))]
     fn awaits(&self, pid: Pid, context: &Context, owned: u16, held: u16) -> bool
         requires hardware { IsHardware self.now }
         requires process { pid.0 < length self.now.desc.processes }
@@ -246,7 +246,7 @@ impl Hardware {
     }
 
     // Whether a process that owns these segments can take a step, where these are held at all.
-    #[tactic(auto, unfolding(seq_settled::specs::Going::goes_on))]
+    #[tactic(auto, unfolding(seq_lines::specs::Going::goes_on))]
     fn goes_on(&self, pid: Pid, context: &Context, owned: u16, held: u16) -> bool
         requires hardware { IsHardware self.now }
         requires readable { MayBeSettled self.now.desc (held_copies self.now) }

@@ -4,6 +4,7 @@
 mod causes;
 mod claims;
 mod event;
+mod failures;
 mod flushes;
 mod going;
 mod hardware;
@@ -12,6 +13,7 @@ mod laws;
 mod operations;
 mod ports;
 mod processor;
+mod recovers;
 mod releases;
 mod run;
 mod runs;

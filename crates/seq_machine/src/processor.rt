@@ -1,11 +1,15 @@
 // A turn of a processor.
-ghost use Rattle.std.specs.Prelude.{◌≡◌, ◌<◌, ◌^◌, None};
+ghost use Rattle.std.specs.Prelude.{◌≡◌, ℕ, ◌<◌, ◌^◌, [], length, slice_index, None};
 ghost use Rattle.seq_words.specs.Description.{IsDescription};
 ghost use Rattle.seq_layout.specs.Shapes.{shape_of};
 ghost use Rattle.seq_layout.specs.Copies.{Matches, copies};
 ghost use Rattle.seq_process.specs.declared.running.Running.{Running};
+ghost use Rattle.seq_turns.specs.declared.recovery.RecoveryAt.{RecoveryAt};
 ghost use Rattle.seq_turns.specs.declared.hand.Hand.TheVariants as hand;
 ghost use Rattle.seq_turns.specs.Machines.{copies_after};
+ghost use Rattle.seq_turns.specs.Machines.Turn.{Moves};
+ghost use Rattle.seq_turns.specs.Recoveries.{recovery_move};
+ghost use Rattle.seq_recover.specs.Needs.{RecoveryNeeds};
 ghost use Rattle.seq_turns.specs.Processors.{runs, turn};
 ghost use Rattle.seq_turns.specs.Events.{happens, note};
 ghost use Rattle.seq_machine.specs.Here.{here, turned, change_of};
@@ -15,6 +19,7 @@ ghost use Rattle.seq_machine.specs.Processors.{RunNeeds, TurnNeeds, MayTurn, loc
 
 use crate::causes::found;
 use crate::operations::operate;
+use crate::recovers::recovering;
 use crate::runs::{Ran, acquire, run};
 use crate::seeks::seek;
 use crate::turned::Turned;
@@ -26,6 +31,15 @@ use seq_words::{Element, Event, MachineDesc, Pe};
 use std::mem;
 
 impl Processor {
+    /// Stops: what the processor is about is lost, and so are its changes.
+    pub(crate) fn stop(&mut self)
+        ensures hand { self.new.hand ≡ Hand.Down }
+        ensures cache { self.new.cache ≡ record self.old.cache { changes = [] } }
+    {
+        self.hand = Hand::Down;
+        self.cache.clear();
+    }
+
     // Takes up what a turn left: the note, or None where the processor stops.
     fn take(&mut self, turned: Turned) -> Option<Note>
         ensures hand { self.new.hand ≡ hand_left turned }
@@ -38,8 +52,7 @@ impl Processor {
                 Some(note)
             }
             Turned::Stopped => {
-                self.hand = Hand::Down;
-                self.cache.clear();
+                self.stop();
                 None
             }
         }
@@ -115,13 +128,30 @@ impl Processor {
         self.take(turned)
     }
 
-    /// A turn of a processor: its note, or None where it stops since the halves of its process differ. No memory is to be copied,
-    /// and no process to be recovered.
+    // A turn of a processor that recovers a process.
+    fn recover(&mut self, memories: &mut Memories, layout: &Layout, desc: &MachineDesc) -> Note
+        requires description { IsDescription desc.now }
+        requires layout { layout.now ≡ shape_of desc.now }
+        requires matches { Matches layout.now memories.old }
+        requires recovers { (r : RecoveryAt) × (self.old.hand ≡ hand.Recovering r) × RecoveryNeeds desc.now (copies layout.now memories.old) r }
+        ensures processor { (r : RecoveryAt) (i pe : ℕ) → self.old.hand ≡ hand.Recovering r → self.new ≡ processor_after (Moves (recovery_move desc.now (here (copies layout.now memories.old) self.old.cache i) pe r)) self.old }
+        ensures note { (r : RecoveryAt) (i pe : ℕ) → self.old.hand ≡ hand.Recovering r → result ≡ (recovery_move desc.now (here (copies layout.now memories.old) self.old.cache i) pe r).note }
+        ensures copies { (r : RecoveryAt) (i pe : ℕ) → self.old.hand ≡ hand.Recovering r → copies layout.now memories.new ≡ copies_after (recovery_move desc.now (here (copies layout.now memories.old) self.old.cache i) pe r).change (copies layout.now memories.old) }
+        ensures matches { Matches layout.now memories.new }
+    {
+        let Hand::Recovering(recovery) = &self.hand else {
+            unreachable!();
+        };
+        self.hand = recovering(*recovery, memories, layout, desc);
+        Note::Moved
+    }
+
+    /// A turn of a processor: its note, or None where it stops since the halves of its process differ. No memory is to be copied.
     pub fn turn(
         &mut self,
         cursor: &mut u8,
         pe: Pe,
-        incarnation: u64,
+        incarnations: &[u64],
         memories: &mut Memories,
         layout: &Layout,
         desc: &MachineDesc,
@@ -129,23 +159,26 @@ impl Processor {
         requires description { IsDescription desc.now }
         requires layout { layout.now ≡ shape_of desc.now }
         requires matches { Matches layout.now memories.old }
-        requires incarnation { incarnation < 2 ^ 48 }
+        requires processors { length incarnations.now ≡ desc.now.processors }
+        requires processor { pe.0 < desc.now.processors }
+        requires incarnation { slice_index incarnations.now pe.0 < 2 ^ 48 }
         requires needs { TurnNeeds desc.now (copies layout.now memories.old) self.old.cache cursor.old self.old.hand }
-        ensures processor { self.new ≡ processor_after (local_turn desc.now (copies layout.now memories.old) self.old.cache incarnation cursor.old pe.0 self.old.hand) self.old }
-        ensures note { result ≡ note_left (turned (local_turn desc.now (copies layout.now memories.old) self.old.cache incarnation cursor.old pe.0 self.old.hand)) }
-        ensures copies { copies layout.now memories.new ≡ copies_after (change_of (local_turn desc.now (copies layout.now memories.old) self.old.cache incarnation cursor.old pe.0 self.old.hand)) (copies layout.now memories.old) }
-        ensures cursor { cursor.new ≡ cursor_after (local_turn desc.now (copies layout.now memories.old) self.old.cache incarnation cursor.old pe.0 self.old.hand) cursor.old }
+        ensures processor { self.new ≡ processor_after (local_turn desc.now (copies layout.now memories.old) self.old.cache (slice_index incarnations.now) cursor.old pe.0 self.old.hand) self.old }
+        ensures note { result ≡ note_left (turned (local_turn desc.now (copies layout.now memories.old) self.old.cache (slice_index incarnations.now) cursor.old pe.0 self.old.hand)) }
+        ensures copies { copies layout.now memories.new ≡ copies_after (change_of (local_turn desc.now (copies layout.now memories.old) self.old.cache (slice_index incarnations.now) cursor.old pe.0 self.old.hand)) (copies layout.now memories.old) }
+        ensures cursor { cursor.new ≡ cursor_after (local_turn desc.now (copies layout.now memories.old) self.old.cache (slice_index incarnations.now) cursor.old pe.0 self.old.hand) cursor.old }
         ensures matches { Matches layout.now memories.new }
     {
+        let incarnation = incarnations[pe.0 as usize];
         match &self.hand {
             Hand::Down => Some(Note::Nothing),
             Hand::Seek => {
-                let (hand, note) = seek(cursor, pe, incarnation, memories, layout, desc);
+                let (hand, note) = seek(cursor, pe, incarnations, memories, layout, desc);
                 self.hand = hand;
                 Some(note)
             }
             Hand::Running(_) => self.run(pe, incarnation, memories, layout, desc),
-            Hand::Recovering(_) => unreachable!(),
+            Hand::Recovering(_) => Some(self.recover(memories, layout, desc)),
             Hand::Claiming(_, _)
             | Hand::Acquiring(_, _, _)
             | Hand::Flushing(_, _, _, _)
@@ -166,13 +199,12 @@ impl Hardware {
         ensures desc { self.new.desc ≡ self.old.desc }
     {
         let at = pe.0 as usize;
-        let incarnation = self.incarnations.get(at);
         let processor = self.processors.at_mut(at);
         let cursor = self.scan.at_mut(at);
         let note = processor.turn(
             cursor,
             pe,
-            incarnation,
+            self.incarnations.as_slice(),
             &mut self.memories,
             &self.layout,
             &self.desc,
@@ -180,6 +212,7 @@ impl Hardware {
         match note {
             Some(note) => note,
             None => {
+                let incarnation = self.incarnations.get(at);
                 self.incarnations.set(at, incarnation + 1);
                 Note::Stopped(Element::Processor(pe))
             }

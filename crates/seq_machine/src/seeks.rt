@@ -1,5 +1,5 @@
-// A turn of a processor that seeks: it looks at a process, and claims it where it may.
-ghost use Rattle.std.specs.Prelude.{◌≡◌, ℕ, ◌<◌, ◌^◌, ◌&&◌, ◌==◌, length, true, false};
+// A turn of a processor that seeks: it recovers a process, or looks at one and claims it where it may.
+ghost use Rattle.std.specs.Prelude.{◌≡◌, ℕ, ◌<◌, ◌^◌, ◌&&◌, ◌==◌, length, slice_index, true, false};
 ghost use Rattle.seq_words.specs.Description.{IsDescription};
 ghost use Rattle.seq_layout.specs.Shapes.{shape_of};
 ghost use Rattle.seq_layout.specs.Copies.{Matches, copies, first_block};
@@ -11,8 +11,11 @@ ghost use Rattle.seq_status.specs.Words.{word_of};
 ghost use Rattle.seq_turns.specs.Machines.{copies_after};
 ghost use Rattle.seq_turns.specs.Reading.{status_word, write_word, context_of};
 ghost use Rattle.seq_turns.specs.Processors.{is_free, looks, next_process};
-ghost use Rattle.seq_machine.specs.Here.{here};
+ghost use Rattle.seq_machine.specs.Here.{here, among, turned, change_of};
+ghost use Rattle.seq_machine.specs.Processors.{SeekNeeds, seeks_among, cursor_after};
+ghost use Rattle.seq_machine.specs.declared.turned.Turned.TheVariants.{Moved};
 
+use crate::recovers::{begin, deserted};
 use seq_kernel::Note;
 use seq_layout::{Layout, WordAt};
 use seq_locks::{Claim, Claimed};
@@ -85,9 +88,9 @@ fn claim(
     }
 }
 
-/// A processor that seeks looks at the process under its cursor, and moves the cursor to the next one, cyclically. Where no
-/// processor holds that process and its context says that it lives, this is the first turn of its claim.
-pub fn seek(
+// A processor looks at the process under its cursor, and moves the cursor to the next one, cyclically. Where no processor holds
+// that process and its context says that it lives, this is the first turn of its claim.
+fn look(
     cursor: &mut u8,
     pe: Pe,
     incarnation: u64,
@@ -115,5 +118,37 @@ pub fn seek(
         (hand, Note::Moved)
     } else {
         (Hand::Seek, Note::Looked(pid))
+    }
+}
+
+/// A processor that seeks begins to recover the lowest process whose holder isn't live. Where there is none it looks at the process
+/// under its cursor, and claims it where it may.
+pub fn seek(
+    cursor: &mut u8,
+    pe: Pe,
+    incarnations: &[u64],
+    memories: &mut Memories,
+    layout: &Layout,
+    desc: &MachineDesc,
+) -> (Hand, Note)
+    requires description { IsDescription desc.now }
+    requires layout { layout.now ≡ shape_of desc.now }
+    requires matches { Matches layout.now memories.old }
+    requires processors { length incarnations.now ≡ desc.now.processors }
+    requires processor { pe.0 < desc.now.processors }
+    requires incarnation { slice_index incarnations.now pe.0 < 2 ^ 48 }
+    requires needs { SeekNeeds desc.now (copies layout.now memories.old) cursor.old }
+    ensures turned { (cache : Changes) → Moved result.0 result.1 ≡ turned (seeks_among desc.now (among (copies layout.now memories.old) cache (slice_index incarnations.now) cursor.old) pe.0) }
+    ensures copies { (cache : Changes) → copies layout.now memories.new ≡ copies_after (change_of (seeks_among desc.now (among (copies layout.now memories.old) cache (slice_index incarnations.now) cursor.old) pe.0)) (copies layout.now memories.old) }
+    ensures cursor { (cache : Changes) → cursor.new ≡ cursor_after (seeks_among desc.now (among (copies layout.now memories.old) cache (slice_index incarnations.now) cursor.old) pe.0) cursor.old }
+    ensures matches { Matches layout.now memories.new }
+{
+    let incarnation = incarnations[pe.0 as usize];
+    match deserted(incarnations, memories, layout, desc) {
+        Some(pid) => {
+            let hand = begin(pid, pe, incarnation, memories, layout, desc);
+            (hand, Note::Moved)
+        }
+        None => look(cursor, pe, incarnation, memories, layout, desc),
     }
 }

@@ -1,17 +1,28 @@
 // Machines on which scenes are played, and how their events are made.
-ghost use Rattle.std.specs.Prelude.{◌≡◌, true, IfOk};
+ghost use Rattle.std.specs.Prelude.{◌≡◌, ℕ, ◌<◌, true, false, IfOk};
 ghost use Rattle.seq_words.specs.Description.{IsBetween, IsSize, IsDescription};
 ghost use Rattle.seq_samples.specs.Samples.{process_of_size};
-ghost use Rattle.seq_fits.specs.Unfailed.{IsBuilt};
-ghost use Rattle.seq_turns.specs.Allowed.{MayArrive, MayClose, Allowed};
+ghost use Rattle.seq_words.specs.declared.kinds.Element.TheVariants as element;
+ghost use Rattle.seq_turns.specs.declared.recovery.Locks.{Locks};
+ghost use Rattle.seq_turns.specs.declared.recovery.Recovery.{Recovery};
+ghost use Rattle.seq_turns.specs.declared.recovery.RecoveryAt.TheVariants as recovery;
+ghost use Rattle.seq_turns.specs.declared.hand.Hand.TheVariants.{Recovering};
+ghost use Rattle.seq_turns.specs.Recoveries.{is_left};
+ghost use Rattle.seq_turns.specs.Allowed.{MayArrive, MayClose, FailureAllowed, RepairAllowed, Allowed};
+ghost use Rattle.seq_stands.specs.Fit.{ClearsInOrder};
 ghost use Rattle.seq_machine.specs.Plain.{machine_of, IsHardware};
 ghost use Rattle.seq_machine.specs.Starting.{no_outside};
 ghost use Rattle.seq_machine.specs.Ports.{port_of};
+ghost use Rattle.seq_machine.specs.Settling.{held_copies};
+ghost use Rattle.seq_machine.specs.Built.{IsBuiltElement, IsBuilt};
 ghost use Rattle.seq_machine.specs.Ready.{IsReady};
 
-use crate::{Hardware, Note, Stop};
+use crate::{Hand, Hardware, Note, RecoveryAt, Stop};
+use seq_layout::WordAt;
 use seq_shelf::{Chronicle, MemChronicle, MemLine, Outlet};
-use seq_words::{Bytes, Event, Items, LineNo, MachineDesc, NoMemory, ProcessDesc, SegmentDesc};
+use seq_words::{
+    Bytes, Element, Event, Items, LineNo, MachineDesc, NoMemory, Pid, ProcessDesc, Seg, SegmentDesc,
+};
 use std::alloc::Global;
 use std::process::Abort;
 use std::test::Fail;
@@ -63,14 +74,16 @@ fn process(
     })
 }
 
-/// A machine of one processor and one I/O element, and of one process, which has line 0.
+/// A machine of so many processors and one I/O element, and of one process, which has line 0.
 pub fn alone(
     rt: &impl Abort,
     alloc: Global,
+    processors: u8,
     quantum: u32,
     size: u32,
     image: &[u8],
 ) -> Result<MachineDesc, Fail>
+    requires processors { IsBetween 1 8 processors }
     requires quantum { IsBetween 1 10000 quantum }
     requires size { IsSize 65536 size }
     ensures described { IfOk result IsDescription }
@@ -78,7 +91,13 @@ pub fn alone(
     assert!(rt; image.len() <= size as usize);
     let only = process(alloc, size, image, 1, 0)?;
     let processes = vec![in alloc; only]?;
-    Ok(machine(1, 1, quantum, Items::new(alloc), Items::from_vec(processes)))
+    Ok(machine(
+        processors,
+        1,
+        quantum,
+        Items::new(alloc),
+        Items::from_vec(processes),
+    ))
 }
 
 /// A machine of one processor and two I/O elements, and of one process, which has lines 0 and 1.
@@ -185,6 +204,79 @@ impl Stage {
         !self.hardware.ports.at(line.0 as usize).closed
     }
 
+    // Whether an element may fail.
+    fn may_fail(&self, element: Element) -> bool
+        ensures built { result ≡ true → IsBuiltElement element }
+        ensures allowed { result ≡ true → FailureAllowed self.now.hardware.desc (machine_of self.now.hardware no_outside) element }
+    {
+        match element {
+            Element::Processor(pe) => pe.0 < self.hardware.desc.processors,
+            Element::Memory(_) | Element::Io(_) => false,
+        }
+    }
+
+    // Whether an element may be repaired.
+    fn may_repair(&self, element: Element) -> bool
+        requires { IsHardware self.now.hardware }
+        ensures built { result ≡ true → IsBuiltElement element }
+        ensures allowed { result ≡ true → RepairAllowed self.now.hardware.desc (machine_of self.now.hardware no_outside) element }
+    {
+        match element {
+            Element::Processor(pe) => {
+                pe.0 < self.hardware.desc.processors
+                    && matches!(self.hardware.processors.at(pe.0 as usize).hand, Hand::Down)
+            }
+            Element::Memory(_) | Element::Io(_) => false,
+        }
+    }
+
+    // Whether lock word k doesn't name a process.
+    fn is_clear(&self, pid: Pid, k: u32) -> bool
+        requires { IsHardware self.now.hardware }
+        ensures { result ≡ true → is_left self.now.hardware.desc (held_copies self.now.hardware) pid.0 k ≡ false }
+    {
+        let layout = &self.hardware.layout;
+        if k / 2 >= layout.segments() as u32 {
+            return false;
+        }
+        let at = WordAt {
+            extent: layout.segment(Seg((k / 2) as u8)),
+            word: 0,
+        };
+        let (memories, shadow) = (&self.hardware.memories, k % 2 == 0);
+        layout.serves(memories, at.extent, shadow)
+            && layout.read_word(memories, at, shadow) != u64::from(pid.0) + 1
+    }
+
+    // Whether no lock word below the cursor of a recovery names its process.
+    fn is_in_order(&self, hand: &Hand) -> bool
+        requires { IsHardware self.now.hardware }
+        ensures { result ≡ true → (r : Recovery Locks) (k : ℕ) → hand.now ≡ Recovering (recovery.Locks r) → k < r.cursor → is_left self.now.hardware.desc (held_copies self.now.hardware) r.pid.0 k ≡ false }
+    {
+        let Hand::Recovering(RecoveryAt::Locks(recovery)) = hand else {
+            return true;
+        };
+        for k in 0..recovery.cursor {
+            if !self.is_clear(recovery.pid, k) {
+                return false;
+            }
+        }
+        true
+    }
+
+    // Whether the recoveries clear locks in their order.
+    fn clears_in_order(&self) -> bool
+        requires { IsHardware self.now.hardware }
+        ensures { result ≡ true → ClearsInOrder self.now.hardware.desc (machine_of self.now.hardware no_outside) }
+    {
+        for at in 0..self.hardware.processors.len() {
+            if !self.is_in_order(&self.hardware.processors.at(at).hand) {
+                return false;
+            }
+        }
+        true
+    }
+
     // Whether an event may be made.
     fn allows(&self, event: Event) -> bool
         requires { IsHardware self.now.hardware }
@@ -196,7 +288,9 @@ impl Stage {
             Event::Io(io) => io.0 < self.hardware.desc.ios,
             Event::Input(line, _) => self.may_arrive(line),
             Event::Close(line) => self.may_close(line),
-            Event::Fail(_) | Event::Repair(_) | Event::Upset(..) | Event::Hangup(_) => false,
+            Event::Fail(element) => self.may_fail(element),
+            Event::Repair(element) => self.may_repair(element),
+            Event::Upset(..) | Event::Hangup(_) => false,
         }
     }
 
@@ -212,7 +306,7 @@ impl Stage {
         ensures { IsReady self.new.made self.new.hardware }
     {
         assert!(rt; self.made < MOST && self.hardware.ports.len() <= lines.len());
-        assert!(rt; self.allows(event));
+        assert!(rt; self.allows(event) && self.clears_in_order());
         match self.hardware.event(event, lines, chronicle) {
             Ok(note) => {
                 self.made += 1;

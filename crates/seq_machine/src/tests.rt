@@ -8,7 +8,7 @@ use crate::{Note, Stop};
 use seq_kernel::{Cause, Reason};
 use seq_samples::lone_process;
 use seq_shelf::{MemChronicle, Outlet};
-use seq_words::{Entry, Event, Ioe, LineNo, MachineDesc, Pe, Pid, Seg};
+use seq_words::{Element, Entry, Event, Ioe, LineNo, MachineDesc, Pe, Pid, Seg};
 use std::alloc::Global;
 use std::process::Abort;
 use std::test::Fail;
@@ -20,6 +20,18 @@ const P1: Event = Event::Processor(Pe(1));
 const I0: Event = Event::Io(Ioe(0));
 
 const I1: Event = Event::Io(Ioe(1));
+
+const FAIL_0: Event = Event::Fail(Element::Processor(Pe(0)));
+
+const FAIL_1: Event = Event::Fail(Element::Processor(Pe(1)));
+
+const REPAIR_0: Event = Event::Repair(Element::Processor(Pe(0)));
+
+const REPAIR_1: Event = Event::Repair(Element::Processor(Pe(1)));
+
+const STOPPED_0: Outcome = Ok(Note::Stopped(Element::Processor(Pe(0))));
+
+const STOPPED_1: Outcome = Ok(Note::Stopped(Element::Processor(Pe(1))));
 
 const NOTHING: Outcome = Ok(Note::Nothing);
 
@@ -141,6 +153,39 @@ fn take_orders(
     }
 }
 
+/// Orders are taken one after the other, each so many times.
+fn take_cycle(
+    rt: &impl Abort,
+    stage: &mut Stage,
+    lines: &mut Vec<Outlet>,
+    chronicle: &mut MemChronicle,
+    cycle: &[(&[Event], u32)],
+)
+    requires { IsReady stage.old.made stage.old.hardware }
+    ensures { IsReady stage.new.made stage.new.hardware }
+{
+    for part in cycle {
+        take_orders(rt, stage, lines, chronicle, part.0, part.1);
+    }
+}
+
+/// A cycle of orders is taken so many times.
+fn take_cycles(
+    rt: &impl Abort,
+    stage: &mut Stage,
+    lines: &mut Vec<Outlet>,
+    chronicle: &mut MemChronicle,
+    cycle: &[(&[Event], u32)],
+    times: u32,
+)
+    requires { IsReady stage.old.made stage.old.hardware }
+    ensures { IsReady stage.new.made stage.new.hardware }
+{
+    for time in 0..times {
+        take_cycle(rt, stage, lines, chronicle, cycle);
+    }
+}
+
 /// Whether a line accepted these bytes and no other.
 fn accepted(outlet: &Outlet, bytes: &[u8]) -> bool {
     for (index, byte) in bytes.iter().enumerate() {
@@ -211,7 +256,7 @@ fn alone_scene(
     bytes: &[u8],
     entries: &[Entry],
 ) -> Result<(), Fail> {
-    let desc = alone(rt, alloc, 1000, 4096, image)?;
+    let desc = alone(rt, alloc, 1, 1000, 4096, image)?;
     first_scene(rt, alloc, desc, faulty, parts, bytes, entries)
 }
 
@@ -359,7 +404,7 @@ const FIVE_STEPS: [Row; 6] = [
 #[test]
 fn a_quantum_ends(rt: HostRuntime) -> Result<(), Fail> {
     let alloc = rt.alloc();
-    let desc = alone(&rt, alloc, 5, 32, &LOOP)?;
+    let desc = alone(&rt, alloc, 1, 5, 32, &LOOP)?;
     let entries = [entry(0, 5), entry(0, 5)];
     let parts: [&[Row]; 2] = [&FIVE_STEPS, &FIVE_STEPS];
     first_scene(&rt, alloc, desc, false, &parts, &[], &entries)
@@ -436,13 +481,14 @@ fn are_counted(entries: &[Entry]) -> bool {
     steps_of(entries, Pid(1)) == 1108 && steps > 1115 && (steps - 1115) % 8 == 0
 }
 
-/// Two processes count to two hundred under this order of turns, after these rows.
+/// Two processes count to two hundred under this cycle of orders, which is taken so many times, after these rows.
 fn count(
     rt: &impl Abort,
     alloc: Global,
     stage: &mut Stage,
     rows: &[Row],
-    order: &[Event],
+    cycle: &[(&[Event], u32)],
+    times: u32,
 ) -> Result<(), Fail>
     requires { IsReady stage.old.made stage.old.hardware }
 {
@@ -453,7 +499,7 @@ fn count(
     let mut lines = vec![in alloc; only]?;
     let mut chronicle = chronicle(alloc, false)?;
     play(rt, stage, &mut lines, &mut chronicle, rows);
-    take_orders(rt, stage, &mut lines, &mut chronicle, order, 20_000);
+    take_cycles(rt, stage, &mut lines, &mut chronicle, cycle, times);
     assert_eq!(rt; lines.len(), 1);
     assert!(rt; accepted(&lines[0], &[0xc8]));
     assert!(rt; are_counted(chronicle.pairs()));
@@ -461,9 +507,20 @@ fn count(
 }
 
 /// The same on a machine of its own.
-fn counting(rt: &impl Abort, alloc: Global, rows: &[Row], order: &[Event]) -> Result<(), Fail> {
+fn counting_in_cycles(
+    rt: &impl Abort,
+    alloc: Global,
+    rows: &[Row],
+    cycle: &[(&[Event], u32)],
+    times: u32,
+) -> Result<(), Fail> {
     let mut stage = Stage::new(alloc, sharing(rt, alloc, 512, &COUNT)?)?;
-    count(rt, alloc, &mut stage, rows, order)
+    count(rt, alloc, &mut stage, rows, cycle, times)
+}
+
+/// The same under one order of turns.
+fn counting(rt: &impl Abort, alloc: Global, rows: &[Row], order: &[Event]) -> Result<(), Fail> {
+    counting_in_cycles(rt, alloc, rows, &[(order, 20_000)], 1)
 }
 
 #[test]
@@ -520,4 +577,139 @@ const HELD: [Row; 32] = [
 fn a_held_lock_is_waited_for(rt: HostRuntime) -> Result<(), Fail> {
     let alloc = rt.alloc();
     counting(&rt, alloc, &HELD, &[P1, P0, I0])
+}
+
+/// The same as `alone_scene` on a machine of two processors, with a process of two blocks of its own.
+fn pair_scene(
+    rt: &impl Abort,
+    alloc: Global,
+    parts: &[&[Row]],
+    bytes: &[u8],
+    entries: &[Entry],
+) -> Result<(), Fail> {
+    let desc = alone(rt, alloc, 2, 1000, 64, &HELLO)?;
+    first_scene(rt, alloc, desc, false, parts, bytes, entries)
+}
+
+/// Process 0 is claimed and exits at its eighth step, and its flush is about to be marked.
+const HELLO_EXITS: [Row; 3] = [(P0, 2, MOVED), (P0, 7, RAN), (P0, 1, EXITS)];
+
+/// Processor 0 fails amid the mark. It does nothing then, and to fail again changes nothing.
+const FAILS_AMID_MARK: [Row; 4] = [
+    (P0, 1, MOVED),
+    (FAIL_0, 1, STOPPED_0),
+    (P0, 2, NOTHING),
+    (FAIL_0, 1, MADE),
+];
+
+/// Processor 1 recovers process 0. Processor 0 is repaired meanwhile, and leaves it alone.
+const RECOVERED: [Row; 6] = [
+    // The status word is claimed; eight blocks of context, eight of an outbox and two others are copied.
+    (P1, 2, MOVED),
+    (P1, 18, MOVED),
+    (REPAIR_0, 1, MADE),
+    (P0, 1, LOOKED),
+    // No lock word is left, and both copies of the status word are set free.
+    (P1, 1, MOVED),
+    (P1, 2, MOVED),
+];
+
+// A processor fails amid the mark of a flush: the process is taken back to its start. The processor runs it again once it is repaired.
+#[test]
+fn a_process_is_taken_back(rt: HostRuntime) -> Result<(), Fail> {
+    let alloc = rt.alloc();
+    let parts: [&[Row]; 7] = [
+        &HELLO_EXITS,
+        &FAILS_AMID_MARK,
+        &RECOVERED,
+        &HELLO_BEFORE,
+        &HELLO_COMMITS,
+        &HELLO_AFTER,
+        &HELLO_SENDS,
+    ];
+    pair_scene(&rt, alloc, &parts, &[0x41], &[entry(0, 8)])
+}
+
+/// Processor 0 fails amid the second pass, after the commit, and is repaired. It recovers the process forward itself, which has
+/// ended then.
+const FORWARD: [Row; 7] = [
+    (P0, 3, MOVED),
+    (FAIL_0, 1, STOPPED_0),
+    (I0, 1, NOTHING),
+    (REPAIR_0, 1, MADE),
+    (P0, 23, MOVED),
+    (P0, 1, LOOKED),
+    (P1, 1, LOOKED),
+];
+
+// A processor fails after the commit: the process goes forward, and nothing is committed again.
+#[test]
+fn a_process_goes_forward(rt: HostRuntime) -> Result<(), Fail> {
+    let alloc = rt.alloc();
+    let parts: [&[Row]; 4] = [&HELLO_BEFORE, &HELLO_COMMITS, &FORWARD, &HELLO_SENDS];
+    pair_scene(&rt, alloc, &parts, &[0x41], &[entry(0, 8)])
+}
+
+/// Processor 1 fails amid the recovery, and processor 0 recovers the process from the beginning.
+const RECOVERY_FAILS: [Row; 8] = [
+    (P1, 7, MOVED),
+    (FAIL_1, 1, STOPPED_1),
+    (REPAIR_0, 1, MADE),
+    (P0, 23, MOVED),
+    (P1, 1, NOTHING),
+    (REPAIR_1, 1, MADE),
+    (P1, 2, MOVED),
+    (P0, 1, LOOKED),
+];
+
+// The processor that recovers a process fails too, and the other recovers it. It is free then.
+#[test]
+fn a_recovery_is_recovered(rt: HostRuntime) -> Result<(), Fail> {
+    let alloc = rt.alloc();
+    let parts: [&[Row]; 3] = [&HELLO_EXITS, &FAILS_AMID_MARK, &RECOVERY_FAILS];
+    pair_scene(&rt, alloc, &parts, &[], &[])
+}
+
+const LOCK_LEFT: [Row; 14] = [
+    // Process 0 acquires the segment, and nothing is committed of it.
+    (P0, 2, MOVED),
+    (P0, 4, RAN),
+    (P0, 1, MOVED),
+    (P0, 1, RAN),
+    (FAIL_0, 1, STOPPED_0),
+    // The status word is claimed; 32 blocks of the process and one of the segment are copied.
+    (P1, 2, MOVED),
+    (P1, 33, MOVED),
+    // Both lock words are cleared, and both copies of the status word.
+    (P1, 2, MOVED),
+    (P1, 2, MOVED),
+    // The process is claimed again, and the lock is free.
+    (P1, 2, MOVED),
+    (P1, 4, RAN),
+    (P1, 1, MOVED),
+    (P1, 1, RAN),
+    (REPAIR_0, 1, MADE),
+];
+
+// A process that is taken back holds a lock no more. Both count on then.
+#[test]
+fn a_lock_is_cleared(rt: HostRuntime) -> Result<(), Fail> {
+    let alloc = rt.alloc();
+    counting(&rt, alloc, &LOCK_LEFT, &[P1, P0, I0])
+}
+
+// Processors fail in turn, amid whatever they are about, and are repaired. The sum is right, and each step is committed once.
+#[test]
+fn both_count_through_failures(rt: HostRuntime) -> Result<(), Fail> {
+    let alloc = rt.alloc();
+    let cycle: [(&[Event], u32); 7] = [
+        (&[P1, P0, I0], 83),
+        (&[FAIL_0, P1, I0], 71),
+        (&[REPAIR_0], 1),
+        (&[P0, P1, P1, I1], 67),
+        (&[FAIL_1, P0, I1], 97),
+        (&[REPAIR_1], 1),
+        (&[P0, P1], 13),
+    ];
+    counting_in_cycles(&rt, alloc, &[], &cycle, 200)
 }

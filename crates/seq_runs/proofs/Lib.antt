@@ -8,9 +8,3 @@ pub mod Owners
 pub mod Orders
 pub mod Growth
 pub mod AnyOrder
-pub mod BoundedBytes
-pub mod BoundedParts
-pub mod BoundedCalls
-pub mod BoundedSteps
-pub mod BoundedStarts
-pub mod HeldMasks

@@ -1,16 +1,10 @@
 //! Laws of flat runs: steps of different processes are independent of each other, since each concerns its own process, the
-//! lines that this process owns and the segments of its area; histories and input grow; every flat state that is reached is
-//! within the bounds of the machine's description.
+//! lines that this process owns and the segments of its area; histories and input grow.
 #![tactic(auto)]
 
-mod bounds;
 mod histories;
 mod independence;
 
-pub use bounds::{
-    arrived_bytes_are_bytes, closed_bytes_are_bytes, held_masks_have_bits, input_keeps_bounds,
-    many_steps_keep_bounds, runs_are_bounded, start_is_bounded, steps_keep_bounds,
-};
 pub use histories::{
     byte_is_more, close_is_more, entry_counts, entry_goes_on, entry_is_last, more_is_more,
     no_entries, none_is_more,

@@ -115,6 +115,10 @@ const LOOP: &str =
 const TRAPPED: &str =
     "sequoia 1\nprocessors 1\nmemories 2\nios 1\ncache 16\nquantum 1000\njournal 32\nprocess trap.sqi lines 0 segments -\n";
 
+// Two processors and two I/O elements, and one process.
+const PAIR: &str =
+    "sequoia 1\nprocessors 2\nmemories 2\nios 2\ncache 16\nquantum 1000\njournal 32\nprocess hello.sqi lines 0 segments -\n";
+
 // Two processes that add under one lock, on two processors.
 const TWO: &str =
     "sequoia 1\nprocessors 2\nmemories 2\nios 2\ncache 16\nquantum 1000\njournal 32\nsegment 32\nprocess count.sqi lines 0 segments 0\nprocess count.sqi lines - segments 0\n";
@@ -130,7 +134,9 @@ struct Run {
     history: &'static [(u8, u32)],
 }
 
-const RUNS: [Run; 17] = [
+const RUN_COUNT: usize = 27;
+
+const RUNS: [Run; RUN_COUNT] = [
     Run {
         machine: HELLO,
         schedule: "finish 10000\n",
@@ -277,6 +283,104 @@ const RUNS: [Run; 17] = [
         bytes: &[],
         history: &[(0, 50)],
     },
+    // All of the first pass is written, but the commit isn't made: the steps are rolled back, and made again.
+    Run {
+        machine: PAIR,
+        schedule: "turns p0 21\nfail p0\nfinish 10000\n",
+        failing: NONE,
+        status: Status::Done,
+        bytes: &[0x41],
+        history: &[(0, 8)],
+    },
+    // The commit is made: the flush is rolled forward, and nothing is made again.
+    Run {
+        machine: PAIR,
+        schedule: "turns p0 22\nfail p0\nfinish 10000\n",
+        failing: NONE,
+        status: Status::Done,
+        bytes: &[0x41],
+        history: &[(0, 8)],
+    },
+    // The processor that recovers stops too, after copying three blocks, and the first one recovers, which is repaired.
+    Run {
+        machine: PAIR,
+        schedule: "turns p0 21\nfail p0\nturns p1 5\nfail p1\nrepair p0\nfinish 10000\n",
+        failing: NONE,
+        status: Status::Done,
+        bytes: &[0x41],
+        history: &[(0, 8)],
+    },
+    // A recovery takes 23 turns: two claim, 18 copy a block each, one finds no lock word, and two set the status word to Idle.
+    // Nothing is sent before the last.
+    Run {
+        machine: PAIR,
+        schedule: "turns p0 22\nfail p0\nturns p1 22\nturns i0 5\n",
+        failing: NONE,
+        status: Status::Done,
+        bytes: &[],
+        history: &[(0, 8)],
+    },
+    Run {
+        machine: PAIR,
+        schedule: "turns p0 22\nfail p0\nturns p1 23\nturn i0\n",
+        failing: NONE,
+        status: Status::Done,
+        bytes: &[0x41],
+        history: &[(0, 8)],
+    },
+    // What was committed waits for a processor.
+    Run {
+        machine: PAIR,
+        schedule: "turns p0 22\nfail p0\nfail p1\nfinish 100\nrepair p1\nfinish 10000\n",
+        failing: NONE,
+        status: Status::OutOfTurns { line: 4 },
+        bytes: &[],
+        history: &[(0, 8)],
+    },
+    // A program that has ended needs none.
+    Run {
+        machine: PAIR,
+        schedule: "turns p0 36\nfail p0\nfail p1\nfinish 100\n",
+        failing: NONE,
+        status: Status::Done,
+        bytes: &[0x41],
+        history: &[(0, 8)],
+    },
+    // A processor that is repaired recovers what it left itself.
+    Run {
+        machine: HELLO,
+        schedule: "turns p0 22\nfail p0\nrepair p0\nfinish 10000\n",
+        failing: NONE,
+        status: Status::Done,
+        bytes: &[0x41],
+        history: &[(0, 8)],
+    },
+    // The chronicle refuses the commit of the steps that are made again.
+    Run {
+        machine: PAIR,
+        schedule: "turns p0 21\nfail p0\nfinish 10000\n",
+        failing: Failing {
+            loads: &[],
+            appends: &[0],
+            sends: &[],
+        },
+        status: Status::ChronicleFault,
+        bytes: &[],
+        history: &[],
+    },
+    // What fails hasn't failed already.
+    Run {
+        machine: HELLO,
+        schedule: "fail p0\nturn p0\nfail p0\n",
+        failing: NONE,
+        status: Status::Refused {
+            file: 2,
+            place: 3,
+            rule: 33,
+        },
+        bytes: &[],
+        history: &[],
+    },
     Run {
         machine: TWO,
         schedule: "turn p2\n",
@@ -344,11 +448,26 @@ fn has_accepted(lines: &Vec<Outlet>, at: usize, wanted: &[u8]) -> bool {
     all
 }
 
+fn row_of(number: usize) -> Option<Run> {
+    RUNS.get(number).copied()
+}
+
+// The calls of `send` that are to fail in a row.
+fn sends_of(number: usize) -> &'static [u8] {
+    match row_of(number) {
+        Some(row) => row.failing.sends,
+        None => &[],
+    }
+}
+
 // Runs a row: whether it ended so, with these bytes and this history, and nothing on the other lines.
-fn comes_out(alloc: Global, row: &Run, lines: &mut Vec<Outlet>) -> Result<bool, Fail>
+fn comes_out(alloc: Global, number: usize, lines: &mut Vec<Outlet>) -> Result<bool, Fail>
     requires sixteen { length lines.old.items ≡ 16 }
     requires fresh { AreFresh (views line lines.old.items) (marks lines.old.items) }
 {
+    let Some(row) = row_of(number) else {
+        return Ok(false);
+    };
     let mut shelf = shelf_of(alloc, row.machine, row.schedule.as_bytes(), row.failing)?;
     let (status, chronicle) = run_on(alloc, &mut shelf, row.failing, lines)?;
     Ok(
@@ -362,13 +481,13 @@ fn comes_out(alloc: Global, row: &Run, lines: &mut Vec<Outlet>) -> Result<bool, 
 #[test]
 fn runs(rt: HostRuntime) -> Result<(), Fail> {
     let alloc = rt.alloc();
-    for row in RUNS {
+    for number in 0..RUN_COUNT {
         let mut lines = Vec::new(alloc);
         for n in 0u8..16 {
-            let line = failing_line(alloc, row.failing.sends)?;
+            let line = failing_line(alloc, sends_of(number))?;
             add_line(&mut lines, Box::new(alloc, line)?)?;
         }
-        assert!(rt; comes_out(alloc, &row, &mut lines)?, "{}", row.schedule);
+        assert!(rt; comes_out(alloc, number, &mut lines)?, "{}", number);
     }
     Ok(())
 }
@@ -405,16 +524,29 @@ fn counting_machine(number: u64) -> (u8, &'static str) {
     }
 }
 
-// Runs an order that is drawn from a number: whether both have added a hundred times, so that line 0 gets 200.
-fn counts(alloc: Global, number: u64, lines: &mut Vec<Outlet>) -> Result<bool, Fail>
+// Runs a schedule: whether both processes have added a hundred times, so that line 0 gets 200.
+fn counts(
+    alloc: Global,
+    machine: &'static str,
+    schedule: &[u8],
+    lines: &mut Vec<Outlet>,
+) -> Result<bool, Fail>
+    requires sixteen { length lines.old.items ≡ 16 }
+    requires fresh { AreFresh (views line lines.old.items) (marks lines.old.items) }
+{
+    let mut shelf = shelf_of(alloc, machine, schedule, NONE)?;
+    let (status, chronicle) = run_on(alloc, &mut shelf, NONE, lines)?;
+    Ok(status == Status::Done && has_accepted(lines, 0, &[200]) && chronicle.pairs().len() > 200)
+}
+
+// The same in an order that is drawn from a number.
+fn counts_in_order(alloc: Global, number: u64, lines: &mut Vec<Outlet>) -> Result<bool, Fail>
     requires sixteen { length lines.old.items ≡ 16 }
     requires fresh { AreFresh (views line lines.old.items) (marks lines.old.items) }
 {
     let (processors, machine) = counting_machine(number);
     let schedule = drawn_schedule(alloc, number, processors)?;
-    let mut shelf = shelf_of(alloc, machine, schedule.as_slice(), NONE)?;
-    let (status, chronicle) = run_on(alloc, &mut shelf, NONE, lines)?;
-    Ok(status == Status::Done && has_accepted(lines, 0, &[200]) && chronicle.pairs().len() > 200)
+    counts(alloc, machine, schedule.as_slice(), lines)
 }
 
 // Sixty orders, twenty on each of the three machines.
@@ -427,7 +559,119 @@ fn counts_in_any_order(rt: HostRuntime) -> Result<(), Fail> {
             let line = failing_line(alloc, &[])?;
             add_line(&mut lines, Box::new(alloc, line)?)?;
         }
-        assert!(rt; counts(alloc, number, &mut lines)?, "{}", number);
+        assert!(rt; counts_in_order(alloc, number, &mut lines)?, "{}", number);
+    }
+    Ok(())
+}
+
+// What follows some turns of processor 0, which runs the program: a processor fails, and perhaps another one, or the same, three
+// turns later; they are repaired or not; and then the rest of the run.
+const FAILURES: [&str; 7] = [
+    "fail p0\nfinish 10000\n",
+    "fail p1\nfinish 10000\n",
+    "fail p0\nrepair p0\nfinish 10000\n",
+    "fail p0\nturns p1 3\nfail p1\nrepair p0\nfinish 10000\n",
+    "fail p1\nturns p0 3\nfail p0\nrepair p1\nfinish 10000\n",
+    "fail p0\nrepair p0\nturns p0 3\nfail p0\nfinish 10000\n",
+    "fail p1\nturns p0 3\nfail p0\nrepair p1\nrepair p0\nfinish 10000\n",
+];
+
+// So many turns of processor 0, and what follows.
+fn failing_schedule(
+    alloc: Global,
+    turns: u64,
+    failures: &'static str,
+) -> Result<Vec<u8>, AllocError> {
+    let mut text = Vec::new(alloc);
+    for _ in 0..turns {
+        text.extend_from_slice(b"turn p0\n")?;
+    }
+    text.extend_from_slice(failures.as_bytes())?;
+    Ok(text)
+}
+
+// Runs these failures after so many turns: whether the byte is sent, and the steps are committed once.
+fn recovers(
+    alloc: Global,
+    turns: u64,
+    failures: &'static str,
+    lines: &mut Vec<Outlet>,
+) -> Result<bool, Fail>
+    requires sixteen { length lines.old.items ≡ 16 }
+    requires fresh { AreFresh (views line lines.old.items) (marks lines.old.items) }
+{
+    let schedule = failing_schedule(alloc, turns, failures)?;
+    let mut shelf = shelf_of(alloc, PAIR, schedule.as_slice(), NONE)?;
+    let (status, chronicle) = run_on(alloc, &mut shelf, NONE, lines)?;
+    Ok(
+        status == Status::Done
+            && are_entries(chronicle.pairs(), &[(0, 8)])
+            && has_accepted(lines, 0, &[0x41])
+            && has_accepted(lines, 1, &[]),
+    )
+}
+
+// Alone a processor takes 36 turns: each of the failures after each of them, and before the first.
+#[test]
+fn recovers_at_every_turn(rt: HostRuntime) -> Result<(), Fail> {
+    let alloc = rt.alloc();
+    for number in 0u64..259 {
+        let mut lines = Vec::new(alloc);
+        for n in 0u8..16 {
+            let line = failing_line(alloc, &[])?;
+            add_line(&mut lines, Box::new(alloc, line)?)?;
+        }
+        let failures = FAILURES[(number % 7) as usize];
+        assert!(rt;
+            recovers(alloc, number / 7, failures, &mut lines)?,
+            "{}",
+            number
+        );
+    }
+    Ok(())
+}
+
+// Some rounds, then a failure of a processor at every hundredth turn, of either in turn, and then the rest of the run.
+fn failing_rounds(alloc: Global, rounds: u64) -> Result<Vec<u8>, AllocError> {
+    let mut text = Vec::new(alloc);
+    for _ in 0..rounds {
+        text.extend_from_slice(b"round 1\n")?;
+    }
+    for _ in 0..100 {
+        text.extend_from_slice(b"fail p0\nround 12\nrepair p0\nround 13\n")?;
+        text.extend_from_slice(b"fail p1\nround 12\nrepair p1\nround 13\n")?;
+    }
+    text.extend_from_slice(b"finish 1000000\n")?;
+    Ok(text)
+}
+
+// Runs that on two processors, a round being four turns: whether line 0 gets 200.
+fn counts_through_failures(
+    alloc: Global,
+    rounds: u64,
+    lines: &mut Vec<Outlet>,
+) -> Result<bool, Fail>
+    requires sixteen { length lines.old.items ≡ 16 }
+    requires fresh { AreFresh (views line lines.old.items) (marks lines.old.items) }
+{
+    let schedule = failing_rounds(alloc, rounds)?;
+    counts(alloc, TWO, schedule.as_slice(), lines)
+}
+
+#[test]
+fn counts_while_processors_fail(rt: HostRuntime) -> Result<(), Fail> {
+    let alloc = rt.alloc();
+    for rounds in 0u64..25 {
+        let mut lines = Vec::new(alloc);
+        for n in 0u8..16 {
+            let line = failing_line(alloc, &[])?;
+            add_line(&mut lines, Box::new(alloc, line)?)?;
+        }
+        assert!(rt;
+            counts_through_failures(alloc, rounds, &mut lines)?,
+            "{}",
+            rounds
+        );
     }
     Ok(())
 }

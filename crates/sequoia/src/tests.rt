@@ -206,10 +206,10 @@ const ROWS: [Row; 16] = [
         bytes: &[0x41],
         entries: ALL_STEPS,
     },
-    // No element fails yet.
+    // Only processors fail yet.
     Row {
         machine: MACHINE,
-        schedule: "turn p0\nturn i0\nfail p0\n",
+        schedule: "turn p0\nfail p0\nfail m0\n",
         failing: NONE,
         status: Status::Refused {
             file: 2,

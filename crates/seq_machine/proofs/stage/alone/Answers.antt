@@ -6,5 +6,5 @@ pub returns : goal.returns
 returns g c = record {
   described =
       rw (c.machine.ensures, c.from_vec.ensures, c.in_ok-processes.ensures.items, c.in_ok-only.ensures, c.new.ensures)
-      (alone-is c.args.quantum c.args.size c.args.image.now c.requires.quantum c.requires.size (omega arith));
+      (alone-is c.args.processors c.args.quantum c.args.size c.args.image.now c.requires.processors c.requires.quantum c.requires.size (omega arith));
 }

@@ -3,7 +3,7 @@ use Rattle.std.proofs.lemmas.Bool.{cases_eq, false≢true}
 use Rattle.seq_layout.specs.Shapes.{Shape}
 use Rattle.seq_ruling.specs.Ruling as ruling_word
 use Rattle.seq_turns.specs.Reading.{ruling}
-use Rattle.seq_settled.specs.Settled.{IsCalm}
+use Rattle.seq_lines.specs.Settled.{IsCalm}
 use Rattle.seq_machine.specs.Plain.{machine_of}
 use Rattle.seq_machine.specs.Settling.{held_copies}
 use Rattle.seq_machine.proofs.hardware.Hardware.all_calm.Goals as goal

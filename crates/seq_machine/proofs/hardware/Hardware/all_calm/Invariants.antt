@@ -1,6 +1,6 @@
 use Rattle.std.proofs.Common.{ℕ, ◌<◌}
 use Rattle.seq_turns.specs.Reading.{ruling}
-use Rattle.seq_settled.specs.Settled.{IsCalm}
+use Rattle.seq_lines.specs.Settled.{IsCalm}
 use Rattle.seq_machine.specs.Plain.{Outside, machine_of}
 use Rattle.seq_machine.specs.Settling.{held_copies}
 use Rattle.seq_machine.proofs.hardware.Hardware.all_calm.Given as goal

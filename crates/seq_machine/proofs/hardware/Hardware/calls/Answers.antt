@@ -1,6 +1,6 @@
 use Rattle.std.proofs.Common.{sym, ◌∙◌}
 use Rattle.seq_kernel.specs.Views.{seen}
-use Rattle.seq_settled.proofs.Ecalls.{calls_by_ecall, calls_nothing}
+use Rattle.seq_lines.proofs.Ecalls.{calls_by_ecall, calls_nothing}
 use Rattle.seq_machine.specs.Settling.{first_blocks}
 use Rattle.seq_machine.proofs.hardware.Hardware.calls.Goals as goal
 

@@ -1,7 +1,7 @@
 use Rattle.std.proofs.Common.{◌≡◌, sym, ◌∙◌}
 use Rattle.seq_layout.specs.Contexts.{context_blocks, HasLengths}
 use Rattle.seq_turns.proofs.Read.{first_contexts_are_read}
-use Rattle.seq_settled.proofs.Going.{same_context}
+use Rattle.seq_lines.proofs.Going.{same_context}
 use Rattle.seq_machine.specs.Settling.{held_copies}
 use Rattle.seq_machine.proofs.hardware.Hardware.context.Goals as goal
 

@@ -1,4 +1,4 @@
-use Rattle.seq_settled.specs.Going.{AreHeldBelow}
+use Rattle.seq_lines.specs.Going.{AreHeldBelow}
 use Rattle.seq_machine.specs.Settling.{first_blocks}
 use Rattle.seq_machine.proofs.hardware.Hardware.held.Given as goal
 

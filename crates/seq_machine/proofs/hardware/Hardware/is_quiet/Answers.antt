@@ -4,9 +4,9 @@ use Rattle.seq_words.specs.Masks.{has_bit}
 use Rattle.seq_layout.specs.Shapes.{Shape}
 use Rattle.seq_layout.specs.declared.context.Context.{Context}
 use Rattle.seq_flat.specs.Step.{IsEnabled}
-use Rattle.seq_settled.specs.Committed.{context_at, state_in, input_counts}
-use Rattle.seq_settled.specs.Going.{AreOwned, goes_on}
-use Rattle.seq_settled.proofs.Going.{goes_on_where_enabled, quiet_by_process}
+use Rattle.seq_lines.specs.Committed.{context_at, state_in, input_counts}
+use Rattle.seq_lines.specs.Going.{AreOwned, goes_on}
+use Rattle.seq_lines.proofs.Going.{goes_on_where_enabled, quiet_by_process}
 use Rattle.seq_machine.specs.Plain.{machine_of}
 use Rattle.seq_machine.specs.Settling.{first_blocks, ports_of}
 use Rattle.seq_machine.proofs.Held.{held_none, held_more}

@@ -1,7 +1,7 @@
 use Rattle.std.proofs.Common.{ℕ, ◌<◌}
 use Rattle.seq_flat.specs.Step.{IsEnabled}
-use Rattle.seq_settled.specs.Committed.{state_in, input_counts}
-use Rattle.seq_settled.specs.Going.{AreHeldBelow}
+use Rattle.seq_lines.specs.Committed.{state_in, input_counts}
+use Rattle.seq_lines.specs.Going.{AreHeldBelow}
 use Rattle.seq_machine.specs.Plain.{Outside, machine_of}
 use Rattle.seq_machine.specs.Settling.{first_blocks}
 use Rattle.seq_machine.proofs.hardware.Hardware.is_quiet.Given as goal

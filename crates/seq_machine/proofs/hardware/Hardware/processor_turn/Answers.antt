@@ -12,8 +12,8 @@ returns-in-Some-clause-machine c o =
     let few : pe < length h.processors = omega (arith, c.requires.hardware.processors, c.requires.may.processor) in
     let scans : pe < length h.scan = omega (arith, c.requires.hardware.scan, c.requires.may.processor) in
     let numbers : pe < length h.incarnations = omega (arith, c.requires.hardware.incarnations, c.requires.may.processor) in
-    turn_made h o pe few scans numbers c.requires.may.uncopied c.requires.may.undeserted
-    c.at_mut-processor.result.now c.get-incarnation.result c.at_mut-cursor.result.now c.at_mut-processor.ensures.value c.get-incarnation.ensures c.at_mut-cursor.ensures.value
+    turn_made h o pe few scans numbers c.requires.may.uncopied
+    c.at_mut-processor.result.now c.as_slice.result.now c.at_mut-cursor.result.now c.at_mut-processor.ensures.value c.as_slice.ensures c.at_mut-cursor.ensures.value
     c.turn-note.result c.turn-note.ensures.note
     c.turn-note.new.self c.turn-note.new.cursor c.turn-note.new.memories h.incarnations
     c.turn-note.ensures.processor c.turn-note.ensures.cursor c.turn-note.ensures.copies (ap (λ n. incarnations_after n h.incarnations pe) (sym c.in-Some.is))
@@ -25,8 +25,8 @@ returns-in-Some-clause-note c o =
     let few : pe < length h.processors = omega (arith, c.requires.hardware.processors, c.requires.may.processor) in
     let scans : pe < length h.scan = omega (arith, c.requires.hardware.scan, c.requires.may.processor) in
     let numbers : pe < length h.incarnations = omega (arith, c.requires.hardware.incarnations, c.requires.may.processor) in
-    sym (turn_noted h o pe few scans numbers c.requires.may.uncopied c.requires.may.undeserted
-    c.at_mut-processor.result.now c.get-incarnation.result c.at_mut-cursor.result.now c.at_mut-processor.ensures.value c.get-incarnation.ensures c.at_mut-cursor.ensures.value
+    sym (turn_noted h o pe few scans numbers c.requires.may.uncopied
+    c.at_mut-processor.result.now c.as_slice.result.now c.at_mut-cursor.result.now c.at_mut-processor.ensures.value c.as_slice.ensures c.at_mut-cursor.ensures.value
     c.turn-note.result c.turn-note.ensures.note ∙ ap (noted pe) c.in-Some.is)
 
 pub returns-in-None-clause-machine : goal.returns-in-None-clause-machine
@@ -37,8 +37,8 @@ returns-in-None-clause-machine c o =
     let scans : pe < length h.scan = omega (arith, c.requires.hardware.scan, c.requires.may.processor) in
     let numbers : pe < length h.incarnations = omega (arith, c.requires.hardware.incarnations, c.requires.may.processor) in
     let stopped = c.set.ensures ∙ ap (λ i. slice_set h.incarnations pe (i + 1)) (sym (get_or_from_slice_get h.incarnations pe c.get-incarnation.result 0 c.get-incarnation.ensures)) in
-    turn_made h o pe few scans numbers c.requires.may.uncopied c.requires.may.undeserted
-    c.at_mut-processor.result.now c.get-incarnation.result c.at_mut-cursor.result.now c.at_mut-processor.ensures.value c.get-incarnation.ensures c.at_mut-cursor.ensures.value
+    turn_made h o pe few scans numbers c.requires.may.uncopied
+    c.at_mut-processor.result.now c.as_slice.result.now c.at_mut-cursor.result.now c.at_mut-processor.ensures.value c.as_slice.ensures c.at_mut-cursor.ensures.value
     c.turn-note.result c.turn-note.ensures.note
     c.turn-note.new.self c.turn-note.new.cursor c.turn-note.new.memories c.set.new.self
     c.turn-note.ensures.processor c.turn-note.ensures.cursor c.turn-note.ensures.copies (stopped ∙ ap (λ n. incarnations_after n h.incarnations pe) (sym c.in-None.is))
@@ -50,6 +50,6 @@ returns-in-None-clause-note c o =
     let few : pe < length h.processors = omega (arith, c.requires.hardware.processors, c.requires.may.processor) in
     let scans : pe < length h.scan = omega (arith, c.requires.hardware.scan, c.requires.may.processor) in
     let numbers : pe < length h.incarnations = omega (arith, c.requires.hardware.incarnations, c.requires.may.processor) in
-    sym (turn_noted h o pe few scans numbers c.requires.may.uncopied c.requires.may.undeserted
-    c.at_mut-processor.result.now c.get-incarnation.result c.at_mut-cursor.result.now c.at_mut-processor.ensures.value c.get-incarnation.ensures c.at_mut-cursor.ensures.value
+    sym (turn_noted h o pe few scans numbers c.requires.may.uncopied
+    c.at_mut-processor.result.now c.as_slice.result.now c.at_mut-cursor.result.now c.at_mut-processor.ensures.value c.as_slice.ensures c.at_mut-cursor.ensures.value
     c.turn-note.result c.turn-note.ensures.note ∙ ap (noted pe) c.in-None.is)

@@ -9,5 +9,5 @@ returns-in-Ok g c =
     let allowed : c.allows.result ≡ true = cc in
     subst (λ (n : ℕ). IsReady n c.event.new.self) next (
     goes_on c.args.self.now.made c.args.self.now.hardware c.event.new.self c.args.event _ _ c.requires (c.allows.ensures.built allowed) (c.allows.ensures.allowed allowed)
-    c.event.ensures.hardware c.event.ensures.desc c.event.ensures.fit c.event.ensures.unfailed c.in-Ok.ensures.machine
+    c.event.ensures.hardware c.event.ensures.desc c.event.ensures.fit c.event.ensures.serving c.in-Ok.ensures.machine
     )

@@ -1,2 +1,0 @@
-pub mod Depends
-pub mod Ahead

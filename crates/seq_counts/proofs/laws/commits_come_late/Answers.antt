@@ -1,5 +1,0 @@
-use Rattle.seq_counts.proofs.Events.{commits_come_late, histories_grow_by_commits}
-use Rattle.seq_counts.proofs.laws.commits_come_late.Goals as goal
-
-pub returns : goal.returns
-returns c = record { commits = commits_come_late; history = histories_grow_by_commits }

@@ -1,6 +1,0 @@
-use Rattle.seq_fits.proofs.Fitting.{start_fit}
-use Rattle.seq_fits.proofs.Image.{images_fit, machines_start_fit, machines_start_at_zero}
-use Rattle.seq_fits.proofs.machines.machines_start_within_bounds.Goals as goal
-
-pub returns : goal.returns
-returns c = record { start = start_fit; images = images_fit; machines = machines_start_fit; numbers = machines_start_at_zero }
