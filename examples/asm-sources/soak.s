@@ -3,7 +3,7 @@
 
 .size 512
 
-addi x8, x0, 49         # how many numbers this process takes: here the most that a workload has
+addi x8, x0, 49         # how many numbers this process takes
 lui x9, 0x40000         # where segment 0 begins
 addi x17, x0, 5         # self(): the process's number, which is that of its line
 ecall

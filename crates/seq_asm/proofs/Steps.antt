@@ -1,6 +1,6 @@
 -- What holds of lines from one to the next.
 use Rattle.std.proofs.Common.{◌≡◌, ℕ, ◌+◌, ◌≤◌, Bool, true, false, ◌||◌, cond, Option, Some, None, List, [], ◌∷◌, ◌++◌, length, reverse, refl, sym, ap, subst, ◌∙◌, append_assoc}
-use Rattle.std.specs.Option.{is_some}
+use Rattle.std.specs.Option.{is_some, option_or}
 use Rattle.std.proofs.lemmas.Bool.{ltb-false}
 use Rattle.std.proofs.lemmas.List.{append-nil, nil_from_length, reverse-append, reverse-reverse}
 use Rattle.seq_text.specs.Lines.{lines_of}
@@ -10,7 +10,7 @@ use Rattle.seq_source.specs.declared.items.Said.TheVariants.{Nothing, UnknownWor
 use Rattle.seq_source.specs.Cuts.{label_of}
 use Rattle.seq_asm.specs.declared.rules.Past.{Past}
 use Rattle.seq_asm.specs.Lines.{said_in, named_in, length_at, end_of, labelled, labels_of, address_in, place_of, entry_or, entry_in, size_or, size_in}
-use Rattle.seq_asm.specs.Rules.{first_of, said_rule, stands, is_second, is_misplaced, place_rule, line_rule, fault_or, fault_from, name_rule, name_fault_from}
+use Rattle.seq_asm.specs.Rules.{said_rule, stands, is_second, is_misplaced, place_rule, line_rule, fault_or, fault_from, name_rule, name_fault_from}
 use Rattle.seq_asm.specs.Surveyed.{says_entry, IsPast}
 
 -- ---- lists
@@ -82,7 +82,7 @@ guard : (b : Bool) (x : ℕ) (r : Option ℕ) → cond b (Some x) r ≡ None →
 guard true x r e = absurd cc
 guard false x r e = (refl, e)
 
-first-none : (a b : Option ℕ) → first_of a b ≡ None → (a ≡ None) × (b ≡ None)
+first-none : (a b : Option ℕ) → option_or a b ≡ None → (a ≡ None) × (b ≡ None)
 first-none None b e = (refl, e)
 first-none (Some rule) b e = absurd cc
 
@@ -91,17 +91,17 @@ or-false true b e = absurd cc
 or-false false b e = e
 
 -- a line that violates no rule ends within the most bytes
-pub line_fits : (at : ℕ) (s t : Bool) (said : Said) → first_of (said_rule said) (place_rule at s t said) ≡ None → at + length_at at said ≤ 65536
+pub line_fits : (at : ℕ) (s t : Bool) (said : Said) → option_or (said_rule said) (place_rule at s t said) ≡ None → at + length_at at said ≤ 65536
 line_fits at s t said e =
     let place = (first-none (said_rule said) (place_rule at s t said) e).1 in
     let inner = (guard (s || t) 53 (cond (is_misplaced at said) (Some 55) None) place).1 in
     let here = (guard (is_misplaced at said) 55 None inner).0 in
     ltb-false _ _ (or-false _ _ here)
 
-same_rule : (a b : ℕ) (s t e f z w : Bool) (k l : Said) → a ≡ b → s ≡ t → e ≡ f → z ≡ w → k ≡ l → first_of (said_rule k) (place_rule a s (is_second e z k) k) ≡ first_of (said_rule l) (place_rule b t (is_second f w l) l)
+same_rule : (a b : ℕ) (s t e f z w : Bool) (k l : Said) → a ≡ b → s ≡ t → e ≡ f → z ≡ w → k ≡ l → option_or (said_rule k) (place_rule a s (is_second e z k) k) ≡ option_or (said_rule l) (place_rule b t (is_second f w l) l)
 same_rule a b s t e f z w k l p q r u v = cc
 
-pub rule_same : (past : Past) (before : List (List ℕ)) (line : List ℕ) (s : Bool) (said : Said) → IsPast past before → s ≡ stands (labels_of before) (label_of line) → said ≡ said_in line → first_of (said_rule said) (place_rule past.end s (is_second past.entry (is_some past.size) said) said) ≡ line_rule before line
+pub rule_same : (past : Past) (before : List (List ℕ)) (line : List ℕ) (s : Bool) (said : Said) → IsPast past before → s ≡ stands (labels_of before) (label_of line) → said ≡ said_in line → option_or (said_rule said) (place_rule past.end s (is_second past.entry (is_some past.size) said) said) ≡ line_rule before line
 unfolding line_rule
 rule_same past before line s said p e f = same_rule past.end (end_of before) s (stands (labels_of before) (label_of line)) past.entry (is_some (entry_in before)) (is_some past.size) (is_some (size_in before)) said (said_in line) p.end e p.entry (ap is_some p.size) f
 

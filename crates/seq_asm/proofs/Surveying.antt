@@ -4,13 +4,13 @@ use Rattle.std.specs.BTreeMap.{BTreeMap, is_at}
 use Rattle.std.specs.Cmp.Lexicographic.{slice_cmp}
 use Rattle.std.specs.Map.{lookup}
 use Rattle.std.specs.Ordering.{nat_cmp}
-use Rattle.std.specs.Option.{is_some}
+use Rattle.std.specs.Option.{is_some, option_or}
 use Rattle.seq_text.specs.Lines.{lines_of}
 use Rattle.seq_source.specs.declared.items.Said.{Said}
 use Rattle.seq_source.specs.Cuts.{label_of}
 use Rattle.seq_asm.specs.declared.rules.Past.{Past}
 use Rattle.seq_asm.specs.Lines.{said_in, length_at, end_of, labelled, labels_of, place_of, size_or}
-use Rattle.seq_asm.specs.Rules.{first_of, said_rule, stands, is_second, place_rule, fault_from}
+use Rattle.seq_asm.specs.Rules.{said_rule, stands, is_second, place_rule, fault_from}
 use Rattle.seq_asm.specs.Surveyed.{HasLabels, says_entry, IsPast}
 use Rattle.seq_asm.proofs.Steps.{turned, all_before, lines_of-empty, labels_more, line_fits, rule_same, past_goes, fault_from-nil, fault_from-none, fault_from-some}
 
@@ -49,13 +49,13 @@ pub record IsRead (text : List ℕ) (m : BTreeMap (Bor (List ℕ)) ℕ) (past : 
   pub said_is : said ≡ said_in line
   pub stands_is : (known : List (List ℕ × ℕ)) → HasLabels m known → s ≡ stands known (label_of line)
 
-pub survey_stops : (text : List ℕ) (m : BTreeMap (Bor (List ℕ)) ℕ) (past : Past) (place : ℕ) (rest line after : List ℕ) (said : Said) (s : Bool) (rule : ℕ) → IsRead text m past place rest line after said s → first_of (said_rule said) (place_rule past.end s (is_second past.entry (is_some past.size) said) said) ≡ Some rule → fault_from [] (lines_of text) ≡ Some (place, rule)
+pub survey_stops : (text : List ℕ) (m : BTreeMap (Bor (List ℕ)) ℕ) (past : Past) (place : ℕ) (rest line after : List ℕ) (said : Said) (s : Bool) (rule : ℕ) → IsRead text m past place rest line after said s → option_or (said_rule said) (place_rule past.end s (is_second past.entry (is_some past.size) said) said) ≡ Some rule → fault_from [] (lines_of text) ≡ Some (place, rule)
 survey_stops text m past place rest line after said s rule h some =
     let r = h.reading in
     let same = rule_same past r.before line s said r.kept (h.stands_is (labels_of r.before) r.labels) h.said_is in
     sym r.fault ∙ ap (fault_from r.before) h.cut ∙ fault_from-some r.before line (lines_of after) rule (sym same ∙ some) ∙ ap (λ (p : ℕ). Some (p, rule)) (sym r.here)
 
-pub survey_goes : (text : List ℕ) (m n : BTreeMap (Bor (List ℕ)) ℕ) (past next : Past) (place : ℕ) (rest line after : List ℕ) (said : Said) (s : Bool) → IsRead text m past place rest line after said s → first_of (said_rule said) (place_rule past.end s (is_second past.entry (is_some past.size) said) said) ≡ None → ((known : List (List ℕ × ℕ)) → HasLabels m known → HasLabels n (labelled past.end (label_of line) ++ known)) → next.end ≡ past.end + length_at past.end said → next.entry ≡ (past.entry || says_entry said) → next.size ≡ size_or place said past.size → IsSurveying text n next (place + 1) after
+pub survey_goes : (text : List ℕ) (m n : BTreeMap (Bor (List ℕ)) ℕ) (past next : Past) (place : ℕ) (rest line after : List ℕ) (said : Said) (s : Bool) → IsRead text m past place rest line after said s → option_or (said_rule said) (place_rule past.end s (is_second past.entry (is_some past.size) said) said) ≡ None → ((known : List (List ℕ × ℕ)) → HasLabels m known → HasLabels n (labelled past.end (label_of line) ++ known)) → next.end ≡ past.end + length_at past.end said → next.entry ≡ (past.entry || says_entry said) → next.size ≡ size_or place said past.size → IsSurveying text n next (place + 1) after
 survey_goes text m n past next place rest line after said s h none noted e f g =
     let r = h.reading in
     let same = rule_same past r.before line s said r.kept (h.stands_is (labels_of r.before) r.labels) h.said_is in

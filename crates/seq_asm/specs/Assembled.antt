@@ -22,21 +22,21 @@ abbrev pub IsAimed : (ℤ → Instr) → ℕ → Option ℕ → List ℕ → Typ
 IsAimed aimed at None piece = ⊥
 IsAimed aimed at (Some address) piece = IsWordOf (aimed (pos address -ℤ pos at)) piece
 
--- The bytes that a line makes at an address, where the label that it names has another. A line that violates a rule makes none.
+-- The bytes that a line makes at an address; `target` is that of the label that it names. A line that violates a rule makes none.
 abbrev pub IsPiece : ℕ → Option ℕ → Said → List ℕ → Type 0
-IsPiece at address (Says (Instruction s)) piece = IsWordOf (instruction_of s) piece
-IsPiece at address (Says (Branch name rs1 rs2)) piece = IsAimed (λ offset. branch_instruction name rs1 rs2 offset) at address piece
-IsPiece at address (Says (Jump rd)) piece = IsAimed (λ offset. Jal rd offset) at address piece
-IsPiece at address (Says (Word n)) piece = piece ≡ little_bytes 4 n
-IsPiece at address (Says (Byte n)) piece = piece ≡ n ∷ []
-IsPiece at address (Says (Space n)) piece = piece ≡ replicate n 0
-IsPiece at address (Says Align) piece = piece ≡ replicate (length_at at (Says Align)) 0
-IsPiece at address (Says Entry) piece = piece ≡ []
-IsPiece at address (Says (Size n)) piece = piece ≡ []
-IsPiece at address Nothing piece = piece ≡ []
-IsPiece at address UnknownWord piece = piece ≡ []
-IsPiece at address BadOperands piece = piece ≡ []
-IsPiece at address OutOfRange piece = piece ≡ []
+IsPiece at target (Says (Instruction s)) piece = IsWordOf (instruction_of s) piece
+IsPiece at target (Says (Branch name rs1 rs2)) piece = IsAimed (λ offset. branch_instruction name rs1 rs2 offset) at target piece
+IsPiece at target (Says (Jump rd)) piece = IsAimed (λ offset. Jal rd offset) at target piece
+IsPiece at target (Says (Word n)) piece = piece ≡ little_bytes 4 n
+IsPiece at target (Says (Byte n)) piece = piece ≡ n ∷ []
+IsPiece at target (Says (Space n)) piece = piece ≡ replicate n 0
+IsPiece at target (Says Align) piece = piece ≡ replicate (length_at at (Says Align)) 0
+IsPiece at target (Says Entry) piece = piece ≡ []
+IsPiece at target (Says (Size n)) piece = piece ≡ []
+IsPiece at target Nothing piece = piece ≡ []
+IsPiece at target UnknownWord piece = piece ≡ []
+IsPiece at target BadOperands piece = piece ≡ []
+IsPiece at target OutOfRange piece = piece ≡ []
 
 -- the bytes of lines behind others, side by side, where these are the labels of the whole source
 unfoldable pub AreBytes : List (List ℕ × ℕ) → List (List ℕ) → List (List ℕ) → List ℕ → Type 0
@@ -44,12 +44,12 @@ AreBytes labels before [] bytes = bytes ≡ []
 AreBytes labels before (line ∷ lines) bytes =
     (piece : List ℕ) × (rest : List ℕ) × IsPiece (end_of before) (address_in labels (named_in line)) (said_in line) piece × AreBytes labels (line ∷ before) lines rest × (bytes ≡ piece ++ rest)
 
--- the image of a source, where these are all of its lines, the last one first
-pub record IsImageOf (all : List (List ℕ)) (lines : List (List ℕ)) (i : Image) : Type 0 where
-  pub size : i.size ≡ size_of (end_of all) (size_in all)
-  pub entry : i.entry ≡ entry_of (labels_of all) (entry_in all)
-  pub bytes : AreBytes (labels_of all) [] lines i.bytes
+-- the image of a source with these lines
+pub record IsImageOf (lines : List (List ℕ)) (i : Image) : Type 0 where
+  pub size : i.size ≡ size_of (end_of (reverse lines)) (size_in (reverse lines))
+  pub entry : i.entry ≡ entry_of (labels_of (reverse lines)) (entry_in (reverse lines))
+  pub bytes : AreBytes (labels_of (reverse lines)) [] lines i.bytes
 
 -- the image that a text makes
 abbrev pub Makes : List ℕ → Image → Type 0
-Makes text i = IsImageOf (reverse (lines_of text)) (lines_of text) i
+Makes text i = IsImageOf (lines_of text) i

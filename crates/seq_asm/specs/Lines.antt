@@ -12,7 +12,7 @@ use Rattle.seq_source.specs.Said.{said, last_operand}
 unfoldable pub said_in : List ℕ → Said
 said_in line = said (word_of line) (tail_of line)
 
--- the label that it names as its target or entry
+-- the last operand, which is a label where the line is a branch or `jal` to a label, or an `.entry`
 unfoldable pub named_in : List ℕ → List ℕ
 named_in line = last_operand (tail_of line)
 

@@ -1,6 +1,6 @@
 -- The first rule that a source violates, with its line from 1.
 use Rattle.std.specs.Prelude.{ℕ, ◌+◌, ◌*◌, ◌/◌, ◌%◌, min, pos, ◌-ℤ◌, Bool, true, false, not, ◌&&◌, ◌||◌, ◌==◌, nat_lt, nat_le, if◌then◌else◌, Option, Some, None, List, [], ◌∷◌, reverse}
-use Rattle.std.specs.Option.{is_some}
+use Rattle.std.specs.Option.{is_some, option_or}
 use Rattle.seq_text.specs.Lines.{lines_of}
 use Rattle.seq_loader.specs.Faults.{is_size, is_entry}
 use Rattle.seq_source.specs.declared.items.Item.TheVariants.{Instruction, Branch, Jump, Entry, Size}
@@ -9,11 +9,6 @@ use Rattle.seq_source.specs.declared.items.Said.TheVariants.{Nothing, UnknownWor
 use Rattle.seq_source.specs.Cuts.{label_of}
 use Rattle.seq_source.specs.Numbers.{offset_of}
 use Rattle.seq_asm.specs.Lines.{said_in, named_in, length_at, end_of, labels_of, address_in, place_of, entry_in, size_in}
-
--- the first rule, if one is violated, and else the other
-abbrev pub first_of : Option ℕ → Option ℕ → Option ℕ
-first_of (Some rule) later = Some rule
-first_of None later = later
 
 -- ---- the rules of one line, behind the lines before it
 
@@ -56,7 +51,7 @@ place_rule at stands second said =
 -- the least rule that a line violates
 unfoldable pub line_rule : List (List ℕ) → List ℕ → Option ℕ
 line_rule before line =
-    first_of (said_rule (said_in line)) (place_rule (end_of before) (stands (labels_of before) (label_of line)) (is_second (is_some (entry_in before)) (is_some (size_in before)) (said_in line)) (said_in line))
+    option_or (said_rule (said_in line)) (place_rule (end_of before) (stands (labels_of before) (label_of line)) (is_second (is_some (entry_in before)) (is_some (size_in before)) (said_in line)) (said_in line))
 
 -- a violated rule at this place, or else what comes later
 abbrev pub fault_or : ℕ → Option ℕ → Option (ℕ × ℕ) → Option (ℕ × ℕ)
@@ -86,10 +81,10 @@ entry_rule (Some address) = None
 
 -- the rule that a line's label violates at an address
 abbrev pub name_rule : ℕ → Option ℕ → Said → Option ℕ
-name_rule at address (Says (Branch name rs1 rs2)) = target_rule 4096 at address
-name_rule at address (Says (Jump rd)) = target_rule 1048576 at address
-name_rule at address (Says Entry) = entry_rule address
-name_rule at address _ = None
+name_rule at target (Says (Branch name rs1 rs2)) = target_rule 4096 at target
+name_rule at target (Says (Jump rd)) = target_rule 1048576 at target
+name_rule at target (Says Entry) = entry_rule target
+name_rule at target _ = None
 
 -- the first fault of the labels that lines name, line by line, where these are the labels of the whole source
 unfoldable pub name_fault_from : List (List ℕ × ℕ) → List (List ℕ) → List (List ℕ) → Option (ℕ × ℕ)
@@ -118,21 +113,17 @@ entry_fault labels size (Some (place, name)) = if is_entry size (address_or (add
 
 -- ---- a whole text
 
--- a fault, if there is one, and else what is tried later
-abbrev pub fault_then : Option (ℕ × ℕ) → Option (ℕ × ℕ) → Option (ℕ × ℕ)
-fault_then (Some fault) later = Some fault
-fault_then None later = later
-
--- the three things that are tried after all lines, where these are all lines, the last one first
-abbrev pub late_fault : List (List ℕ) → List (List ℕ) → Option (ℕ × ℕ)
-late_fault all lines =
-    fault_then (size_fault (end_of all) (size_in all))
-    (fault_then (name_fault_from (labels_of all) [] lines)
+-- the first fault of the three things that are tried after all lines
+abbrev pub late_fault : List (List ℕ) → Option (ℕ × ℕ)
+late_fault lines =
+    let all = reverse lines in
+    option_or (size_fault (end_of all) (size_in all))
+    (option_or (name_fault_from (labels_of all) [] lines)
     (entry_fault (labels_of all) (size_of (end_of all) (size_in all)) (entry_in all)))
 
 -- the first violated rule of lines, with its place
 abbrev pub fault_of : List (List ℕ) → Option (ℕ × ℕ)
-fault_of lines = fault_then (fault_from [] lines) (late_fault (reverse lines) lines)
+fault_of lines = option_or (fault_from [] lines) (late_fault lines)
 
 -- the first violated rule of a text, with its place
 abbrev pub first_fault : List ℕ → Option (ℕ × ℕ)

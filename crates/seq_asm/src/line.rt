@@ -12,7 +12,7 @@ use seq_source::{Said, cut_line, last_operand, read_words};
 pub struct Reading<'a> {
     pub label: Option<&'a [u8]>,
     pub said: Said,
-    /// The label that it names as its target or entry, if it names one.
+    /// The last operand, which is a label where the line is a branch or `jal` to a label, or an `.entry`.
     pub named: &'a [u8],
 }
 

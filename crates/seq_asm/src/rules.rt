@@ -1,7 +1,7 @@
 // The rules of one line.
 ghost use Rattle.std.specs.Prelude.{◌≡◌, ◌≤◌, ◌+◌, nat_lt};
-ghost use Rattle.std.specs.Option.{is_some};
-ghost use Rattle.seq_asm.specs.Rules.{first_of, said_rule, is_second, is_instruction, is_misplaced, place_rule};
+ghost use Rattle.std.specs.Option.{is_some, option_or};
+ghost use Rattle.seq_asm.specs.Rules.{said_rule, is_second, is_instruction, is_misplaced, place_rule};
 
 use crate::lengths::{MOST_BYTES, length_at};
 use seq_source::{Item, Said};
@@ -98,7 +98,7 @@ pub struct Past {
 /// The least rule that a line violates.
 pub fn line_rule(past: Past, stands: bool, said: Said) -> Option<u16>
     requires { past.end ≤ 65536 }
-    ensures { result ≡ first_of (said_rule said) (place_rule past.end stands (is_second past.entry (is_some past.size) said) said) }
+    ensures { result ≡ option_or (said_rule said) (place_rule past.end stands (is_second past.entry (is_some past.size) said) said) }
 {
     match said_rule(said) {
         Some(rule) => Some(rule),

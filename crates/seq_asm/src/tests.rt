@@ -4,7 +4,7 @@ use std::alloc::Global;
 use std::test::Fail;
 
 // Their word is unknown: rule 50 at line 1.
-const UNKNOWN_WORDS: [&[u8]; 16] = [
+const UNKNOWN_WORDS: [&[u8]; 18] = [
     b"foo",
     b".foo 1",
     b"ADDI x1, x0, 5",
@@ -21,10 +21,12 @@ const UNKNOWN_WORDS: [&[u8]; 16] = [
     b"ecall\r",
     b".Word 1",
     b"_ x1",
+    b"\r",
+    b"ecall,",
 ];
 
 // Their operands aren't of the word's form: rule 51 at line 1.
-const BAD_OPERANDS: [&[u8]; 57] = [
+const BAD_OPERANDS: [&[u8]; 63] = [
     b"addi x1, x0",
     b"addi x1, x0, 5, 6",
     b"addi",
@@ -82,10 +84,16 @@ const BAD_OPERANDS: [&[u8]; 57] = [
     b".space -01",
     b".byte 'a'",
     b"a: addi x1, x0, y",
+    b"addi x32, x0, 9999",
+    b"lw x5, 9999(x32)",
+    b"ecall ,",
+    b"addi x1,,5",
+    b"lw x5, 0()",
+    b"jalr x1, x2",
 ];
 
 // A value is out of its range, or an offset is odd: rule 52 at line 1.
-const OUT_OF_RANGE: [&[u8]; 28] = [
+const OUT_OF_RANGE: [&[u8]; 29] = [
     b"addi x1, x0, 2048",
     b"addi x1, x0, -2049",
     b"addi x1, x0, 0x800",
@@ -114,10 +122,11 @@ const OUT_OF_RANGE: [&[u8]; 28] = [
     b".byte -129",
     b".space -1",
     b".word 0x100000000",
+    b"addi x1, x0, 18446744073709551616",
 ];
 
 // Further sources, with place and rule worked out by hand.
-const REFUSED: [(&[u8], u64, u16); 61] = [
+const REFUSED: [(&[u8], u64, u16); 64] = [
     (b"ecall\n\nnop\n", 3, 50),
     (b"# c\n\tecall\nfoo # c\n", 3, 50),
     (b".byte 1 # 2\n.byte\n", 2, 51),
@@ -179,10 +188,13 @@ const REFUSED: [(&[u8], u64, u16); 61] = [
     (b"ecall\n.entry a\n.space 65532\na:\n", 2, 56),
     (b".entry a\n.byte 0\na:\n.align\njal x0, b\n", 5, 54),
     (b".entry a\n.byte 1\na:\n.size 33\n", 4, 55),
+    (b".byte 1\naddi x1, x0, 2048\n", 2, 52),
+    (b".entry a\n.entry 5\n", 2, 51),
+    (b".space 18446744073709551616\n", 1, 55),
 ];
 
 // Sources with their private size, entry and bytes, worked out by hand from the manual's formats.
-const TAKEN: [(&[u8], u32, u32, &[u8]); 31] = [
+const TAKEN: [(&[u8], u32, u32, &[u8]); 33] = [
     (b"addi x1, x0, 5", 1056, 0, b"\x93\x00\x50\x00"),
     (b"# nothing", 1024, 0, b""),
     (b"", 1024, 0, b""),
@@ -299,6 +311,8 @@ const TAKEN: [(&[u8], u32, u32, &[u8]); 31] = [
         4,
         b"\x01\x00\x00\x00\x73\x00\x00\x00",
     ),
+    (b".byte 1\n.word 1\n", 1056, 0, b"\x01\x01\x00\x00\x00"),
+    (b"beq x0, x0, 2\n", 1056, 0, b"\x63\x01\x00\x00"),
 ];
 
 const HELLO: &[u8] =
@@ -442,6 +456,8 @@ fn the_largest_images(rt: HostRuntime) -> Result<(), Fail> {
     assert_eq!(rt; image.bytes.as_slice().len(), 65_536);
     let over = repeated(alloc, b"", b"ecall\n", 16_384, b"ecall\n")?;
     assert_eq!(rt; refusal(alloc, over.as_slice()), refused(16_385, 55));
+    let aligned = b".space 65535\n.align\n";
+    assert!(rt; makes(alloc, aligned, 65_536, 0, &[0; 65_536]));
     let blank = repeated(alloc, b".space 65536\nend:\n", b"# c\n", 10, b".size 65536")?;
     let image = assemble(alloc, blank.as_slice()).ok().ok_or("refused")?;
     assert_eq!(rt; image.bytes.as_slice().len(), 65_536);

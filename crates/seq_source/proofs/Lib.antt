@@ -4,4 +4,3 @@ pub mod Kept
 pub mod Arities
 pub mod Ranges
 pub mod Fits
-pub mod Same

@@ -1,7 +1,7 @@
 -- Numbers in the ranges of operands.
-use Rattle.std.proofs.Common.{◌≡◌, ℕ, suc, ◌<◌, ◌%◌, Bool, true, false, ◌&&◌, cond, ltb, eqb, List, Option, Some, None, refl, sym, ap, subst, arith}
+use Rattle.std.proofs.Common.{◌≡◌, ℕ, suc, ◌<◌, ◌≤◌, ◌%◌, Bool, true, false, ◌&&◌, cond, ltb, leb, eqb, List, Option, Some, None, refl, sym, ap, subst, arith}
 use Rattle.std.specs.Prelude.{ℤ, pos, negsuc, MatchOption, IfSome}
-use Rattle.std.proofs.lemmas.Bool.{ltb-true, lt-ltb, eqb-true, eq-eqb, and_parts, and_from}
+use Rattle.std.proofs.lemmas.Bool.{ltb-true, lt-ltb, leb-true, le-leb, eqb-true, eq-eqb, and_parts, and_from}
 use mir.Syntax.{w64}
 use mir.Val.{SFits, to_z, of_z}
 use Rattle.std.proofs.lemmas.Int.{ints, to_z-of_z}
@@ -21,11 +21,11 @@ decided false P z (Some i) to back h = let e : false ≡ true = back (subst P h.
 
 immediate_yes : (z : ℤ) → fits_in 2048 z ≡ true → IsImmediate z
 immediate_yes (pos n) e = let h = ltb-true _ _ e in grind (arith, ints)
-immediate_yes (negsuc n) e = let h = ltb-true _ _ e in grind (arith, ints)
+immediate_yes (negsuc n) e = let h : n ≤ 2047 = leb-true _ _ (and_parts (leb n 2047) true e).0 in grind (arith, ints)
 
 immediate_no : (z : ℤ) → IsImmediate z → fits_in 2048 z ≡ true
 immediate_no (pos n) h = let a = h.high in lt-ltb n 2048 (omega (arith, ints))
-immediate_no (negsuc n) h = let a = h.low in lt-ltb n 2048 (omega (arith, ints))
+immediate_no (negsuc n) h = let a = h.low in and_from (leb n 2047) true (le-leb n 2047 (omega (arith, ints))) refl
 
 pub immediate_is : (z : ℤ) (o : Option ℤ) → MatchOption o (IsImmediate z → ⊥) (λ i. (i ≡ z) × IsImmediate i) → o ≡ immediate_of z
 unfolding immediate_of
@@ -35,11 +35,11 @@ immediate_is z o h = decided (fits_in 2048 z) IsImmediate z o (immediate_yes z) 
 
 branch_yes : (z : ℤ) → (fits_in 4096 z && is_even z) ≡ true → IsOffset 4096 z
 branch_yes (pos n) e = let p = and_parts (ltb n 4096) (eqb (n % 2) 0) e in let h : n < 4096 = ltb-true _ _ p.0 in let k : n % 2 ≡ 0 = eqb-true _ _ p.1 in grind (arith, ints)
-branch_yes (negsuc n) e = let p = and_parts (ltb n 4096) (eqb (suc n % 2) 0) e in let h : n < 4096 = ltb-true _ _ p.0 in let k : suc n % 2 ≡ 0 = eqb-true _ _ p.1 in grind (arith, ints)
+branch_yes (negsuc n) e = let p = and_parts (fits_in 4096 (negsuc n)) (eqb (suc n % 2) 0) e in let h : n ≤ 4095 = leb-true _ _ (and_parts (leb n 4095) true p.0).0 in let k : suc n % 2 ≡ 0 = eqb-true _ _ p.1 in grind (arith, ints)
 
 branch_no : (z : ℤ) → IsOffset 4096 z → (fits_in 4096 z && is_even z) ≡ true
 branch_no (pos n) h = let a = h.high in let b = h.even in and_from (ltb n 4096) (eqb (n % 2) 0) (lt-ltb n 4096 (omega (arith, ints))) (eq-eqb (n % 2) 0 (omega (arith, ints)))
-branch_no (negsuc n) h = let a = h.low in let b = h.even in and_from (ltb n 4096) (eqb (suc n % 2) 0) (lt-ltb n 4096 (omega (arith, ints))) (eq-eqb (suc n % 2) 0 (omega (arith, ints)))
+branch_no (negsuc n) h = let a = h.low in let b = h.even in and_from (fits_in 4096 (negsuc n)) (eqb (suc n % 2) 0) (and_from (leb n 4095) true (le-leb n 4095 (omega (arith, ints))) refl) (eq-eqb (suc n % 2) 0 (omega (arith, ints)))
 
 pub branch_is : (z : ℤ) (o : Option ℤ) → MatchOption o (IsOffset 4096 z → ⊥) (λ i. (i ≡ z) × IsOffset 4096 i) → o ≡ offset_of 4096 z
 unfolding offset_of
@@ -47,11 +47,11 @@ branch_is z o h = decided (fits_in 4096 z && is_even z) (IsOffset 4096) z o (bra
 
 jump_yes : (z : ℤ) → (fits_in 1048576 z && is_even z) ≡ true → IsOffset 1048576 z
 jump_yes (pos n) e = let p = and_parts (ltb n 1048576) (eqb (n % 2) 0) e in let h : n < 1048576 = ltb-true _ _ p.0 in let k : n % 2 ≡ 0 = eqb-true _ _ p.1 in grind (arith, ints)
-jump_yes (negsuc n) e = let p = and_parts (ltb n 1048576) (eqb (suc n % 2) 0) e in let h : n < 1048576 = ltb-true _ _ p.0 in let k : suc n % 2 ≡ 0 = eqb-true _ _ p.1 in grind (arith, ints)
+jump_yes (negsuc n) e = let p = and_parts (fits_in 1048576 (negsuc n)) (eqb (suc n % 2) 0) e in let h : n ≤ 1048575 = leb-true _ _ (and_parts (leb n 1048575) true p.0).0 in let k : suc n % 2 ≡ 0 = eqb-true _ _ p.1 in grind (arith, ints)
 
 jump_no : (z : ℤ) → IsOffset 1048576 z → (fits_in 1048576 z && is_even z) ≡ true
 jump_no (pos n) h = let a = h.high in let b = h.even in and_from (ltb n 1048576) (eqb (n % 2) 0) (lt-ltb n 1048576 (omega (arith, ints))) (eq-eqb (n % 2) 0 (omega (arith, ints)))
-jump_no (negsuc n) h = let a = h.low in let b = h.even in and_from (ltb n 1048576) (eqb (suc n % 2) 0) (lt-ltb n 1048576 (omega (arith, ints))) (eq-eqb (suc n % 2) 0 (omega (arith, ints)))
+jump_no (negsuc n) h = let a = h.low in let b = h.even in and_from (fits_in 1048576 (negsuc n)) (eqb (suc n % 2) 0) (and_from (leb n 1048575) true (le-leb n 1048575 (omega (arith, ints))) refl) (eq-eqb (suc n % 2) 0 (omega (arith, ints)))
 
 pub jump_is : (z : ℤ) (o : Option ℤ) → MatchOption o (IsOffset 1048576 z → ⊥) (λ i. (i ≡ z) × IsOffset 1048576 i) → o ≡ offset_of 1048576 z
 unfolding offset_of

@@ -1,7 +1,6 @@
 -- What directives say.
-use Rattle.std.specs.Prelude.{ℕ, ◌^◌, ◌==◌, ℤ, pos, negsuc, if◌then◌else◌, codes, Option, Some, None, List, [], ◌∷◌, length}
+use Rattle.std.specs.Prelude.{ℕ, ◌^◌, ℤ, pos, negsuc, if◌then◌else◌, codes, Option, Some, None, List, [], ◌∷◌}
 use Rattle.std.specs.Str.{bytes_eq}
-use Rattle.seq_source.specs.declared.items.Item.{Item}
 use Rattle.seq_source.specs.declared.items.Item.TheVariants.{Word, Byte, Space, Align, Entry, Size}
 use Rattle.seq_source.specs.declared.items.Said.{Said}
 use Rattle.seq_source.specs.declared.items.Said.TheVariants.{BadOperands, OutOfRange, Says}
@@ -10,6 +9,7 @@ use Rattle.seq_source.specs.declared.directives.Directive.TheVariants as directi
 use Rattle.seq_source.specs.Names.{is_label}
 use Rattle.seq_source.specs.Numbers.{number_written, wrapped}
 use Rattle.seq_source.specs.Operands.{operands_in}
+use Rattle.seq_source.specs.Forms.{with_one, given, in_range, alone_said}
 
 -- the directive that a word is
 abbrev pub directive_named : List ℕ → Option Directive
@@ -22,71 +22,38 @@ directive_named word =
     else if bytes_eq word (codes ".size") then Some directives.Size
     else None
 
--- with so many operands
-abbrev pub with_one : (List ℕ → Said) → List (List ℕ) → Said
-with_one say (a ∷ []) = say a
-with_one say _ = BadOperands
-
-abbrev pub with_two : (List ℕ → List ℕ → Said) → List (List ℕ) → Said
-with_two say (a ∷ b ∷ []) = say a b
-with_two say _ = BadOperands
-
-abbrev pub with_three : (List ℕ → List ℕ → List ℕ → Said) → List (List ℕ) → Said
-with_three say (a ∷ b ∷ c ∷ []) = say a b c
-with_three say _ = BadOperands
+-- the number of exactly one operand
+abbrev pub number_in : List (List ℕ) → Option ℤ
+number_in (v ∷ []) = number_written v
+number_in _ = None
 
 -- .word v
-abbrev pub word_with : Option ℕ → Said
-word_with None = OutOfRange
-word_with (Some n) = Says (Word n)
-
-abbrev pub word_said : Option ℤ → Said
-word_said None = BadOperands
-word_said (Some z) = word_with (wrapped (2 ^ 31) z)
+abbrev pub word_said : ℤ → Said
+word_said z = in_range (wrapped (2 ^ 31) z) (λ n. Word n)
 
 -- .byte v
-abbrev pub byte_with : Option ℕ → Said
-byte_with None = OutOfRange
-byte_with (Some n) = Says (Byte n)
-
-abbrev pub byte_said : Option ℤ → Said
-byte_said None = BadOperands
-byte_said (Some z) = byte_with (wrapped 128 z)
+abbrev pub byte_said : ℤ → Said
+byte_said z = in_range (wrapped 128 z) (λ n. Byte n)
 
 -- .space n
-abbrev pub space_said : Option ℤ → Said
-space_said None = BadOperands
-space_said (Some (pos n)) = Says (Space n)
-space_said (Some (negsuc n)) = OutOfRange
+abbrev pub space_said : ℤ → Said
+space_said (pos n) = Says (Space n)
+space_said (negsuc n) = OutOfRange
 
 -- .size n: whether it is a size is looked at when the whole source is read
-abbrev pub size_said : Option ℤ → Said
-size_said None = BadOperands
-size_said (Some (pos n)) = Says (Size n)
-size_said (Some (negsuc n)) = Says (Size 0)
+abbrev pub size_said : ℤ → Said
+size_said (pos n) = Says (Size n)
+size_said (negsuc n) = Says (Size 0)
 
 -- .entry LABEL
 abbrev pub entry_said : List ℕ → Said
 entry_said name = if is_label name then Says Entry else BadOperands
 
--- a word without operands
-abbrev pub alone_said : Item → List ℕ → Said
-alone_said item text = if length text == 0 then Says item else BadOperands
-
--- what a directive with this operand says; `.align` takes none
-abbrev pub operand_said : Directive → List ℕ → Said
-operand_said directives.Word v = word_said (number_written v)
-operand_said directives.Byte v = byte_said (number_written v)
-operand_said directives.Space n = space_said (number_written n)
-operand_said directives.Align a = BadOperands
-operand_said directives.Entry name = entry_said name
-operand_said directives.Size n = size_said (number_written n)
-
 -- what a directive with these operands says
 unfoldable pub directive_said : Directive → List ℕ → Said
-directive_said directives.Word text = with_one (operand_said directives.Word) (operands_in text)
-directive_said directives.Byte text = with_one (operand_said directives.Byte) (operands_in text)
-directive_said directives.Space text = with_one (operand_said directives.Space) (operands_in text)
+directive_said directives.Word text = given (number_in (operands_in text)) word_said
+directive_said directives.Byte text = given (number_in (operands_in text)) byte_said
+directive_said directives.Space text = given (number_in (operands_in text)) space_said
 directive_said directives.Align text = alone_said Align text
-directive_said directives.Entry text = with_one (operand_said directives.Entry) (operands_in text)
-directive_said directives.Size text = with_one (operand_said directives.Size) (operands_in text)
+directive_said directives.Entry text = with_one entry_said (operands_in text)
+directive_said directives.Size text = given (number_in (operands_in text)) size_said

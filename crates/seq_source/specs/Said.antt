@@ -23,11 +23,11 @@ said_as None None text = UnknownWord
 unfoldable pub said : List ℕ → List ℕ → Said
 said word text = if length word == 0 then Nothing else said_as (mnemonic_of word) (directive_named word) text
 
--- the last operand, which is the label of a branch, a `jal` or an `.entry`
+-- the last operand, which is a label where the line is a branch or `jal` to a label, or an `.entry`
 unfoldable pub last_operand : List ℕ → List ℕ
 last_operand text = without_front (after_last (λ byte. byte == 44) text)
 
--- what is said has a word: the instruction's operands are in their ranges
+-- what is said has a word: its registers, and its other operands as far as they are read, are in their ranges
 abbrev pub HasWord : Said → Type 0
 HasWord (Says (Instruction s)) = InRange (instruction_of s)
 HasWord (Says (Branch name rs1 rs2)) = (rs1 < 32) × (rs2 < 32)

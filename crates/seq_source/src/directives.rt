@@ -1,6 +1,7 @@
 // The directives.
 ghost use Rattle.std.specs.Prelude.{◌≡◌};
-ghost use Rattle.seq_source.specs.Directives.{directive_named, with_one, word_said, byte_said, space_said, size_said, entry_said, alone_said, operand_said, directive_said};
+ghost use Rattle.seq_source.specs.Forms.{with_one, given, alone_said};
+ghost use Rattle.seq_source.specs.Directives.{directive_named, number_in, word_said, byte_said, space_said, size_said, entry_said, directive_said};
 ghost use Rattle.seq_source.specs.Operands.{operands_in};
 ghost use Rattle.seq_source.specs.Said.{HasWord};
 
@@ -42,7 +43,7 @@ pub fn directive_named(word: &[u8]) -> Option<Directive>
 }
 
 fn word_said(number: Option<i64>) -> Said
-    ensures value { result ≡ word_said number }
+    ensures value { result ≡ given number word_said }
     ensures word { HasWord result }
 {
     let Some(number) = number else {
@@ -55,7 +56,7 @@ fn word_said(number: Option<i64>) -> Said
 }
 
 fn byte_said(number: Option<i64>) -> Said
-    ensures value { result ≡ byte_said number }
+    ensures value { result ≡ given number byte_said }
     ensures word { HasWord result }
 {
     let Some(number) = number else {
@@ -68,7 +69,7 @@ fn byte_said(number: Option<i64>) -> Said
 }
 
 fn space_said(number: Option<i64>) -> Said
-    ensures value { result ≡ space_said number }
+    ensures value { result ≡ given number space_said }
     ensures word { HasWord result }
 {
     match number {
@@ -84,7 +85,7 @@ fn space_said(number: Option<i64>) -> Said
 }
 
 fn size_said(number: Option<i64>) -> Said
-    ensures value { result ≡ size_said number }
+    ensures value { result ≡ given number size_said }
     ensures word { HasWord result }
 {
     match number {
@@ -93,14 +94,14 @@ fn size_said(number: Option<i64>) -> Said
     }
 }
 
-fn entry_said(name: &[u8]) -> Said
-    ensures value { result ≡ entry_said name.now }
+#[tactic(auto, using(crate::proofs::Arities::one_none))]
+fn entry_said(text: &[u8]) -> Said
+    ensures value { result ≡ with_one entry_said (operands_in text.now) }
     ensures word { HasWord result }
 {
-    if is_label(name) {
-        Said::Says(Item::Entry)
-    } else {
-        Said::BadOperands
+    match one_operand(text) {
+        Some(name) if is_label(name) => Said::Says(Item::Entry),
+        _ => Said::BadOperands,
     }
 }
 
@@ -117,29 +118,14 @@ pub fn alone(item: Item, text: &[u8]) -> Said
     }
 }
 
-// What a directive with this operand says. `.align` takes none.
-fn operand_said(directive: Directive, operand: &[u8]) -> Said
-    ensures value { result ≡ operand_said directive operand.now }
-    ensures word { HasWord result }
-{
-    match directive {
-        Directive::Word => word_said(number_written(operand)),
-        Directive::Byte => byte_said(number_written(operand)),
-        Directive::Space => space_said(number_written(operand)),
-        Directive::Align => Said::BadOperands,
-        Directive::Entry => entry_said(operand),
-        Directive::Size => size_said(number_written(operand)),
-    }
-}
-
-#[tactic(auto, using(crate::proofs::Arities::one_none))]
-fn with_operand(directive: Directive, text: &[u8]) -> Said
-    ensures value { result ≡ with_one (operand_said directive) (operands_in text.now) }
-    ensures word { HasWord result }
+// The number of a text that lists one, and nothing else.
+#[tactic(auto, using(crate::proofs::Arities::number_none))]
+fn number_in(text: &[u8]) -> Option<i64>
+    ensures { result ≡ number_in (operands_in text.now) }
 {
     match one_operand(text) {
-        None => Said::BadOperands,
-        Some(operand) => operand_said(directive, operand),
+        None => None,
+        Some(operand) => number_written(operand),
     }
 }
 
@@ -150,11 +136,11 @@ pub fn directive_said(directive: Directive, text: &[u8]) -> Said
     ensures word { HasWord result }
 {
     match directive {
-        Directive::Word => with_operand(directive, text),
-        Directive::Byte => with_operand(directive, text),
-        Directive::Space => with_operand(directive, text),
+        Directive::Word => word_said(number_in(text)),
+        Directive::Byte => byte_said(number_in(text)),
+        Directive::Space => space_said(number_in(text)),
         Directive::Align => alone(Item::Align, text),
-        Directive::Entry => with_operand(directive, text),
-        Directive::Size => with_operand(directive, text),
+        Directive::Entry => entry_said(text),
+        Directive::Size => size_said(number_in(text)),
     }
 }

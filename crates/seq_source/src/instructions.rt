@@ -5,7 +5,7 @@ ghost use Rattle.seq_isa.specs.InRange.{IsImmediate, IsOffset};
 ghost use Rattle.seq_mnemonics.specs.Registers.{register_of};
 ghost use Rattle.seq_source.specs.Numbers.{immediate_of, offset_of, below};
 ghost use Rattle.seq_source.specs.Operands.{operands_in};
-ghost use Rattle.seq_source.specs.Directives.{with_two, with_three, alone_said};
+ghost use Rattle.seq_source.specs.Forms.{with_two, with_three, alone_said};
 ghost use Rattle.seq_source.specs.Instructions.{closed, displacement_of, base_of, registers_said, immediate_said, shift_said, indirect_said, store_said, branch_said, jump_said, upper_said, instruction_said};
 ghost use Rattle.seq_source.specs.Said.{HasWord};
 

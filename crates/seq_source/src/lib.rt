@@ -5,7 +5,6 @@ mod cutting;
 mod directives;
 mod instructions;
 mod items;
-mod laws;
 mod names;
 mod numbers;
 mod operands;
@@ -15,7 +14,6 @@ pub use cutting::{Line, cut_line};
 pub use directives::Directive;
 pub use instructions::{branch_offset_of, jump_offset_of};
 pub use items::{Item, Said};
-pub use laws::numbers_are_kept;
 pub use reading::{last_operand, read_words};
 
 #[cfg(test)]

@@ -1,9 +1,13 @@
 // The numbers of a source.
-ghost use Rattle.std.specs.Prelude.{◌≡◌, ◌≤◌, ◌<◌, ◌^◌, ◌*◌, ◌≤ℤ◌, pos, neg_ℤ, true, false, take, drop, nat_lt, codes, IfSome, MatchOption};
+ghost use Rattle.std.specs.Prelude.{◌≡◌, ◌≤◌, ◌<◌, ◌^◌, ◌*◌, ◌≤ℤ◌, ◌&&◌, min, pos, neg_ℤ, true, false, length, take, drop, nat_lt, codes, IfSome, MatchOption};
+ghost use Rattle.std.specs.Char.{digit_value};
 ghost use Rattle.std.specs.List.{list_all};
 ghost use Rattle.std.specs.Option.{option_map};
 ghost use Rattle.std.specs.Str.{bytes_eq};
-ghost use Rattle.seq_source.specs.Numbers.{kept, hex_value, is_hexadecimal, hex_number, hexadecimal_of, decimal_of, number_written, wrapped};
+ghost use Rattle.std.specs.Str.Parse.{digits_value};
+ghost use Rattle.seq_text.specs.Numbers.{number_of};
+ghost use Rattle.seq_mnemonics.specs.Numbers.{is_hexadecimal, hexadecimal_of};
+ghost use Rattle.seq_source.specs.Numbers.{kept, number_written, wrapped};
 
 use seq_text::number;
 
@@ -11,9 +15,8 @@ use seq_text::number;
 pub const LARGEST: u64 = 1 << 40;
 
 // The value of a hexadecimal digit in either letter case, and 16 for any other byte.
-#[tactic(auto, unfolding(crate::specs::Numbers::hex_value))]
 fn hex_value(byte: u8) -> u8
-    ensures value { result ≡ hex_value byte }
+    ensures value { result ≡ min (digit_value byte) 16 }
     ensures bound { result ≤ 16 }
 {
     if b'0' <= byte && byte <= b'9' {
@@ -28,26 +31,27 @@ fn hex_value(byte: u8) -> u8
 }
 
 fn is_hex_digit(byte: u8) -> bool
-    ensures { result ≡ nat_lt (hex_value byte) 16 }
+    ensures { result ≡ is_hexadecimal byte }
 {
     hex_value(byte) < 16
 }
 
 fn are_hex_digits(digits: &[u8]) -> bool
-    ensures { result ≡ list_all (λ byte. nat_lt (hex_value byte) 16) digits.now }
+    ensures { result ≡ list_all is_hexadecimal digits.now }
 {
     digits.iter().all(|byte| is_hex_digit(*byte))
 }
 
 fn is_hexadecimal(digits: &[u8]) -> bool
-    ensures { result ≡ is_hexadecimal digits.now }
+    ensures { result ≡ (nat_lt 0 (length digits.now) && list_all is_hexadecimal digits.now) }
 {
     !digits.is_empty() && are_hex_digits(digits)
 }
 
 // The number that hexadecimal digits write, as it is kept.
 fn hex_number(digits: &[u8]) -> u64
-    ensures { result ≡ kept (hex_number digits.now) }
+    ensures value { list_all is_hexadecimal digits.now ≡ true → result ≡ kept (digits_value 16 digits.now) }
+    ensures small { result ≤ 2 ^ 40 }
 {
     let mut number = 0;
     for byte in digits {
@@ -56,9 +60,9 @@ fn hex_number(digits: &[u8]) -> u64
     number
 }
 
-#[tactic(auto, unfolding(crate::specs::Numbers::hexadecimal_of))]
+#[tactic(auto, using(crate::proofs::Kept::hexadecimal_none))]
 fn hexadecimal(digits: &[u8]) -> Option<u64>
-    ensures value { result ≡ hexadecimal_of digits.now }
+    ensures value { result ≡ option_map kept (hexadecimal_of digits.now) }
     ensures small { IfSome result (λ n. n ≤ 2 ^ 40) }
 {
     if is_hexadecimal(digits) {
@@ -70,7 +74,7 @@ fn hexadecimal(digits: &[u8]) -> Option<u64>
 
 #[tactic(auto, using(crate::proofs::Kept::decimal_none, crate::proofs::Kept::decimal_some))]
 fn decimal(word: &[u8]) -> Option<u64>
-    ensures value { result ≡ decimal_of word.now }
+    ensures value { result ≡ option_map kept (number_of word.now) }
     ensures small { IfSome result (λ n. n ≤ 2 ^ 40) }
 {
     match number(word) {
@@ -135,7 +139,7 @@ fn negative(number: Option<u64>) -> Option<i64>
 
 /// The number that a word writes: `0x` and hexadecimal digits, or in decimal without leading zeros, perhaps behind a `-`.
 /// One that is further from 0 than 2^40 is kept as 2^40 or -2^40.
-#[tactic(auto, unfolding(crate::specs::Numbers::number_written))]
+#[tactic(auto, using(crate::proofs::Kept::hexadecimal_written, crate::proofs::Kept::negative_written, crate::proofs::Kept::decimal_written))]
 pub fn number_written(word: &[u8]) -> Option<i64>
     ensures value { result ≡ number_written word.now }
     ensures small { IfSome result (λ z. (neg_ℤ (pos (2 ^ 40)) ≤ℤ z) × (z ≤ℤ pos (2 ^ 40))) }

@@ -44,7 +44,7 @@ fn behind_last_comma(text: &[u8]) -> usize
     start
 }
 
-/// The last operand, which is the label of a branch, a `jal` or an `.entry`.
+/// The last operand, which is a label where the line is a branch or `jal` to a label, or an `.entry`.
 #[tactic(auto, unfolding(crate::specs::Said::last_operand))]
 pub fn last_operand(text: &[u8]) -> &[u8]
     ensures { result.now ≡ last_operand text.now }

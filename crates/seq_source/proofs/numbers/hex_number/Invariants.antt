@@ -1,5 +1,6 @@
 use Rattle.std.proofs.Common.{◌≡◌, ◌≤◌, ◌^◌, take}
-use Rattle.seq_source.specs.Numbers.{kept, hex_number}
+use Rattle.seq_source.specs.Numbers.{kept}
+use Rattle.seq_source.proofs.Kept.{hex_number}
 use Rattle.seq_source.proofs.numbers.hex_number.Given as goal
 
 abbrev pub invariant-loop-byte : goal.invariant-loop-byte
