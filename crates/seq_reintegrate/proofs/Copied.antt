@@ -1,11 +1,11 @@
 -- The copying of a unit is the table's row, and what is known of the units goes on.
-use Rattle.std.proofs.Common.{◌≡◌, ◌≢◌, ℕ, suc, ◌+◌, ◌<◌, ◌≤◌, Bool, true, false, nat_le, cond, length, slice_get, Option, Some, None, inl, inr, ◌⊎◌, refl, sym, ap, ◌∙◌, subst, arith, add-one}
-use Rattle.std.proofs.lemmas.Bool.{cases_Bool, cases_lt, cases_eq, cond-true, cond-false, leb-true, leb-false, true≢false, false≢true}
+use Rattle.std.proofs.Common.{◌≡◌, ◌≢◌, ℕ, suc, ◌+◌, ◌<◌, ◌≤◌, true, false, nat_le, length, slice_get, Option, Some, None, inl, inr, ◌⊎◌, refl, sym, ap, ◌∙◌, subst, arith, add-one}
+use Rattle.std.proofs.lemmas.Bool.{cases_Bool, cases_eq, cond-true, cond-false, leb-true, leb-false, false≢true}
 use Rattle.std.proofs.lemmas.Option.{slice_get_within}
 use Rattle.std.specs.Prelude.{sum}
 use Rattle.std.proofs.lemmas.List.Sums.{sum_by-le}
 use Rattle.std.proofs.lemmas.List.Elements.{All-weaker}
-use Rattle.seq_words.specs.Description.{IsDescription, IsBetween}
+use Rattle.seq_words.specs.Description.{IsBetween}
 use Rattle.seq_words.specs.declared.description.MachineDesc.{MachineDesc}
 use Rattle.seq_memory.specs.States.{is_in_service, is_returning}
 use Rattle.seq_memory.specs.declared.element.State.{State}
@@ -19,12 +19,12 @@ use Rattle.seq_layout.proofs.CopiesLaws.{state_changes_alone}
 use Rattle.seq_layout.proofs.Sizes.{blocks_between, extents_few}
 use Rattle.seq_layout.proofs.UnitParts.{units_are_few}
 use Rattle.seq_turns.specs.Functions.{update}
-use Rattle.seq_turns.specs.Machines.{Machine, copies_after}
+use Rattle.seq_turns.specs.Machines.{copies_after}
 use Rattle.seq_turns.specs.Recoveries.{next_of, unit_taken, service_after, with_unit}
 use Rattle.seq_reintegrate.specs.Needs.{IsDescribed, CopyingNeeds}
 use Rattle.seq_reintegrate.specs.Rows.{holding, IsUnitCopied}
-use Rattle.seq_reintegrate.specs.Stands.{IsEqual, IsBelow, AreEqualBelow, CopyingKnows, AllEqual}
-use Rattle.seq_reintegrate.specs.Taken.{taken_from, taken_next}
+use Rattle.seq_reintegrate.specs.Stands.{IsEqual, AreEqualBelow, CopyingKnows, AllEqual}
+use Rattle.seq_reintegrate.specs.Taken.{taken_next}
 use Rattle.seq_reintegrate.proofs.Equal.{equal_taken, equal_stays, equal_in_state}
 
 -- the memories after the next unit of memory i is copied

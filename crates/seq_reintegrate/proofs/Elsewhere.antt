@@ -1,5 +1,5 @@
 -- What is known of the units of a memory that is copied survives what happens elsewhere.
-use Rattle.std.proofs.Common.{◌≡◌, ◌≢◌, ℕ, ◌<◌, Bool, sym, ap, ◌∙◌, subst, arith}
+use Rattle.std.proofs.Common.{◌≡◌, ◌≢◌, ℕ, Bool, sym, ap, ◌∙◌, subst, arith}
 use Rattle.seq_words.specs.declared.block.Block as block
 use Rattle.seq_memory.specs.declared.element.State.{State}
 use Rattle.seq_layout.specs.Shapes.{Shape}
@@ -10,7 +10,7 @@ use Rattle.seq_layout.specs.declared.units.Unit.{Unit}
 use Rattle.seq_layout.specs.declared.units.Unit.TheVariants.{Block, Word}
 use Rattle.seq_layout.proofs.CopiesLaws.{memory_fails_alone, state_changes_alone}
 use Rattle.seq_turns.specs.Recoveries.{next_of}
-use Rattle.seq_reintegrate.specs.Stands.{IsBelow, IsEqual, AreEqualBelow, CopyingKnows}
+use Rattle.seq_reintegrate.specs.Stands.{IsBelow, AreEqualBelow, CopyingKnows}
 use Rattle.seq_reintegrate.specs.Survive.{CopyingSurvives}
 use Rattle.seq_reintegrate.proofs.Equal.{equal_in_state, equal_beside_block, equal_beside_word}
 

@@ -1,5 +1,5 @@
 -- A unit that is taken from its other copy is equal on both, and every other unit stays as it was.
-use Rattle.std.proofs.Common.{◌≡◌, ◌≢◌, ℕ, ◌<◌, Bool, true, false, not, Some, None, Option, inl, inr, refl, sym, ap, ◌∙◌, arith}
+use Rattle.std.proofs.Common.{◌≡◌, ◌≢◌, ℕ, Bool, true, false, not, Some, None, Option, inl, inr, refl, sym, ap, ◌∙◌}
 use Rattle.std.proofs.lemmas.Bool.{cases_eq, true≢false, false≢true}
 use Rattle.seq_words.specs.declared.block.Block as block
 use Rattle.seq_memory.specs.declared.element.State.{State}

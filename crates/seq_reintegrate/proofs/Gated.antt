@@ -1,5 +1,5 @@
 -- The first processor that is marked is the first that is amid an operation.
-use Rattle.std.proofs.Common.{◌≡◌, ℕ, zero, suc, ◌<◌, Bool, cond, List, length, Some, None, refl, ap, ◌∙◌, subst, arith}
+use Rattle.std.proofs.Common.{◌≡◌, ℕ, zero, suc, ◌<◌, Bool, cond, List, length, Some, None, refl, ap, ◌∙◌, arith}
 use Rattle.seq_words.specs.declared.description.MachineDesc.{MachineDesc}
 use Rattle.seq_ruling.specs.Lowest.{lowest, or_else}
 use Rattle.seq_turns.specs.Machines.{Machine}

@@ -1,5 +1,5 @@
 -- What is known of the units of a memory that is copied survives what happens elsewhere.
-use Rattle.std.specs.Prelude.{◌≡◌, ◌≢◌, ℕ, Bool}
+use Rattle.std.specs.Prelude.{◌≢◌, ℕ, Bool}
 use Rattle.seq_words.specs.declared.block.Block as block
 use Rattle.seq_memory.specs.declared.element.State.{State}
 use Rattle.seq_layout.specs.Shapes.{Shape}

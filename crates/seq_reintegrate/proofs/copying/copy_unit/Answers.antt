@@ -1,8 +1,8 @@
-use Rattle.std.proofs.Common.{◌≡◌, ℕ, ◌+◌, ◌≤◌, length, slice_get, sym, ap, ◌∙◌, subst, arith}
+use Rattle.std.proofs.Common.{◌≡◌, ◌+◌, length, slice_get, ap, ◌∙◌, arith}
 use Rattle.seq_layout.specs.Copies.{Copies, copies, with_state}
 use Rattle.seq_layout.specs.Units.{units_of}
 use Rattle.seq_turns.specs.Machines.{copies_after}
-use Rattle.seq_turns.specs.Recoveries.{next_of, service_after}
+use Rattle.seq_turns.specs.Recoveries.{service_after}
 use Rattle.seq_reintegrate.specs.Taken.{taken_next}
 use Rattle.seq_reintegrate.proofs.Copied.{after_unit, is_row, copying_knows, all_equal, needs_next, next_small, few_units}
 use Rattle.seq_reintegrate.proofs.copying.copy_unit.Goals as goal

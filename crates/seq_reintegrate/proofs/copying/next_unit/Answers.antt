@@ -1,4 +1,4 @@
-use Rattle.std.proofs.Common.{◌≡◌, ◌⊎◌, inl, inr, ℕ, sym, ap, ◌∙◌}
+use Rattle.std.proofs.Common.{◌≡◌, ◌⊎◌, inl, inr, sym, ap, ◌∙◌}
 use Rattle.seq_memory.specs.declared.element.State.{State}
 use Rattle.seq_memory.specs.declared.element.State.TheVariants.{InService, Down, Stale}
 use Rattle.seq_layout.proofs.CopiesByPlace.{memory_state_is}

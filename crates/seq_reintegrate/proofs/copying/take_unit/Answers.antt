@@ -1,4 +1,4 @@
-use Rattle.std.proofs.Common.{◌≡◌, ℕ, Bool, not, nat_eq, sym, ap, ◌∙◌}
+use Rattle.std.proofs.Common.{◌≡◌, not, nat_eq, sym, ap, ◌∙◌}
 use Rattle.seq_layout.specs.Copies.{copies, with_block, with_word}
 use Rattle.seq_layout.specs.Units.{copy_on}
 use Rattle.seq_layout.specs.declared.units.Unit.{Unit}
