@@ -3,7 +3,7 @@ ghost use Rattle.std.specs.Prelude.{◌≡◌, ◌≢◌, ◌↔◌, ◌<◌, �
 ghost use Rattle.seq_pair.specs.Halves.{other_half, inverted, struck};
 ghost use Rattle.seq_pair.specs.Turns.{same_effect, effect_at, IsAligned, Differ, unstruck, turn_of, pair_after, port_bytes_after, port_after};
 
-use seq_rv32::{Effect, Port, apply, plan};
+use seq_rv32::{Effect, Port, apply, plan_both};
 use seq_words::{Half, Regs};
 
 /// The two halves of a processor, and the one that was struck, if any.
@@ -21,13 +21,6 @@ pub enum Turn {
     Agreed(Effect),
     /// Their pcs or their effects differ, and nothing was changed.
     Diverged,
-}
-
-// Whether two effects are one.
-fn same_effect(first: &Effect, second: &Effect) -> bool
-    ensures { result ≡ same_effect first.now second.now }
-{
-    *first == *second
 }
 
 // Whether two register sets hold the same.
@@ -103,10 +96,9 @@ impl Pair {
         if self.a.pc != self.b.pc {
             return Turn::Diverged;
         }
-        let effect = plan(&self.a, port);
-        if !same_effect(&effect, &plan(&self.b, port)) {
+        let Some(effect) = plan_both(&self.a, &self.b, port) else {
             return Turn::Diverged;
-        }
+        };
         apply(&mut self.a, &effect);
         apply(&mut self.b, &effect);
         if let Effect::Next {

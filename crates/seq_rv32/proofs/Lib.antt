@@ -3,3 +3,4 @@ pub mod Numbers
 pub mod NextPc
 pub mod Values
 pub mod Outcomes
+pub mod Sources

@@ -1,7 +1,8 @@
 //! The plan of an instruction.
-ghost use Rattle.std.specs.Prelude.{◌≡◌, ℕ, ◌%◌, ◌↔◌};
+ghost use Rattle.std.specs.Prelude.{◌≡◌, ◌≢◌, ℕ, ◌%◌, ◌<◌, ◌↔◌, true, false, IfSome, None};
 ghost use Rattle.seq_isa.specs.InRange.{InRange};
 ghost use Rattle.seq_isa.specs.Meaning.{outcome_of, outcome_at};
+ghost use Rattle.seq_rv32.specs.Sources.{sources_of, HoldAlike};
 ghost use Rattle.seq_rv32.specs.Effects.{effect_of, StoresWhereFull, StoreFits, NamesRegister, MovesAligned, ChangesNothing, applied, bytes_after, state_after};
 
 use crate::alu::{
@@ -211,6 +212,65 @@ fn execute<P: Port>(instr: Instr, regs: &Regs, port: &P) -> Effect
     }
 }
 
+// The two registers that an instruction reads; x0 stands for none.
+fn sources(instr: Instr) -> (u8, u8)
+    requires { InRange instr }
+    ensures value { result ≡ sources_of instr }
+    ensures first { result.0 < 32 }
+    ensures second { result.1 < 32 }
+{
+    match instr {
+        Instr::Lui { .. }
+        | Instr::Auipc { .. }
+        | Instr::Jal { .. }
+        | Instr::Fence { .. }
+        | Instr::Ecall
+        | Instr::Ebreak => (0, 0),
+        Instr::Jalr { rs1, .. }
+        | Instr::Lb { rs1, .. }
+        | Instr::Lh { rs1, .. }
+        | Instr::Lw { rs1, .. }
+        | Instr::Lbu { rs1, .. }
+        | Instr::Lhu { rs1, .. }
+        | Instr::Addi { rs1, .. }
+        | Instr::Slti { rs1, .. }
+        | Instr::Sltiu { rs1, .. }
+        | Instr::Xori { rs1, .. }
+        | Instr::Ori { rs1, .. }
+        | Instr::Andi { rs1, .. }
+        | Instr::Slli { rs1, .. }
+        | Instr::Srli { rs1, .. }
+        | Instr::Srai { rs1, .. } => (rs1, 0),
+        Instr::Beq { rs1, rs2, .. }
+        | Instr::Bne { rs1, rs2, .. }
+        | Instr::Blt { rs1, rs2, .. }
+        | Instr::Bge { rs1, rs2, .. }
+        | Instr::Bltu { rs1, rs2, .. }
+        | Instr::Bgeu { rs1, rs2, .. }
+        | Instr::Sb { rs1, rs2, .. }
+        | Instr::Sh { rs1, rs2, .. }
+        | Instr::Sw { rs1, rs2, .. }
+        | Instr::Add { rs1, rs2, .. }
+        | Instr::Sub { rs1, rs2, .. }
+        | Instr::Sll { rs1, rs2, .. }
+        | Instr::Slt { rs1, rs2, .. }
+        | Instr::Sltu { rs1, rs2, .. }
+        | Instr::Xor { rs1, rs2, .. }
+        | Instr::Srl { rs1, rs2, .. }
+        | Instr::Sra { rs1, rs2, .. }
+        | Instr::Or { rs1, rs2, .. }
+        | Instr::And { rs1, rs2, .. }
+        | Instr::Mul { rs1, rs2, .. }
+        | Instr::Mulh { rs1, rs2, .. }
+        | Instr::Mulhsu { rs1, rs2, .. }
+        | Instr::Mulhu { rs1, rs2, .. }
+        | Instr::Div { rs1, rs2, .. }
+        | Instr::Divu { rs1, rs2, .. }
+        | Instr::Rem { rs1, rs2, .. }
+        | Instr::Remu { rs1, rs2, .. } => (rs1, rs2),
+    }
+}
+
 /// What the instruction at pc would do with these registers at a port.
 fn effect_at_pc<P: Port>(regs: &Regs, port: &P) -> Effect
     requires { regs.now.pc % 4 ≡ 0 }
@@ -239,6 +299,64 @@ pub fn plan<P: Port>(regs: &Regs, port: &P) -> Effect
     ensures store { StoreFits (P.admission port.now) result }
 {
     effect_at_pc(regs, port)
+}
+
+// Whether two register sets hold the same in each register that an instruction reads.
+fn hold_alike(instr: Instr, first: &Regs, second: &Regs) -> bool
+    requires range { InRange instr }
+    requires pc { first.now.pc ≡ second.now.pc }
+    ensures { result ≡ true → HoldAlike first.now second.now (sources_of instr).0 (sources_of instr).1 }
+{
+    let (rs1, rs2) = sources(instr);
+    read(first, rs1) == read(second, rs1) && read(first, rs2) == read(second, rs2)
+}
+
+// Whether two effects are one.
+fn is_same(first: &Effect, second: &Effect) -> bool
+    ensures same { result ≡ true → first.now ≡ second.now }
+    ensures differ { result ≡ false → first.now ≢ second.now }
+{
+    *first == *second
+}
+
+// What an instruction would do with each of two register sets, where that is the same. It is planned a second time only where they
+// differ in a register that it reads.
+#[tactic(auto, using(crate::proofs::Sources::outcomes_alike))]
+fn execute_both<P: Port>(instr: Instr, first: &Regs, second: &Regs, port: &P) -> Option<Effect>
+    requires range { InRange instr }
+    requires pc { first.now.pc ≡ second.now.pc }
+    ensures first { IfSome result (λ e. e ≡ effect_of (P.admission port.now) (outcome_of first.now (P.bytes port.now) instr)) }
+    ensures second { IfSome result (λ e. e ≡ effect_of (P.admission port.now) (outcome_of second.now (P.bytes port.now) instr)) }
+    ensures differ { result ≡ None → effect_of (P.admission port.now) (outcome_of first.now (P.bytes port.now) instr) ≢ effect_of (P.admission port.now) (outcome_of second.now (P.bytes port.now) instr) }
+    ensures register { IfSome result NamesRegister }
+    ensures store { IfSome result (StoreFits (P.admission port.now)) }
+{
+    let effect = execute(instr, first, port);
+    if hold_alike(instr, first, second) || is_same(&effect, &execute(instr, second, port)) {
+        Some(effect)
+    } else {
+        None
+    }
+}
+
+/// What the instruction at one pc would do with each of two register sets, where that is the same, and None exactly where it
+/// differs. It is fetched and decoded once, and planned a second time only where they differ in a register that it reads.
+pub fn plan_both<P: Port>(first: &Regs, second: &Regs, port: &P) -> Option<Effect>
+    requires aligned { first.now.pc % 4 ≡ 0 }
+    requires pc { first.now.pc ≡ second.now.pc }
+    ensures first { IfSome result (λ e. e ≡ effect_of (P.admission port.now) (outcome_at first.now (P.bytes port.now))) }
+    ensures second { IfSome result (λ e. e ≡ effect_of (P.admission port.now) (outcome_at second.now (P.bytes port.now))) }
+    ensures differ { result ≡ None → effect_of (P.admission port.now) (outcome_at first.now (P.bytes port.now)) ≢ effect_of (P.admission port.now) (outcome_at second.now (P.bytes port.now)) }
+    ensures register { IfSome result NamesRegister }
+    ensures store { IfSome result (StoreFits (P.admission port.now)) }
+{
+    match port.fetch(first.pc) {
+        None => Some(Effect::Trap(1)),
+        Some(word) => match decode(word) {
+            None => Some(Effect::Trap(2)),
+            Some(instr) => execute_both(instr, first, second, port),
+        },
+    }
 }
 
 /// Takes the instruction at pc: plans it, applies the effect, and makes its store. Call, Trap and Full change nothing.
