@@ -11,12 +11,18 @@ use Rattle.seq_shelf.specs.Told.{Map}
 use Rattle.seq_manifest.specs.declared.draft.Draft.{Draft}
 use Rattle.seq_manifest.specs.Drafts.{Describes}
 use Rattle.seq_manifest.specs.Faults.{first_fault as description_fault}
+use Rattle.seq_loader.specs.declared.image.Image.{Image}
+use Rattle.seq_loader.specs.Image.{Spells}
+use Rattle.seq_loader.specs.Faults.{first_fault as image_fault}
+use Rattle.seq_asm.specs.Assembled.{Makes}
+use Rattle.seq_asm.specs.Rules.{first_fault as source_fault}
+use Rattle.seq_cli.specs.Commands.{Command, run, asm, list, form_of}
 use Rattle.seq_cli.specs.Files.{Opening, absent, refused, faulty, fails, file_fault, file_limit, OpensText, OpensContent, OpensLoad, OpensFile}
 use Rattle.seq_cli.specs.Parts.{part_fault, Completes, names_of, OpensParts}
 use Rattle.seq_schedule.specs.declared.forms.Gate.TheVariants.{Built}
 use Rattle.seq_schedule.specs.Rules.{first_fault as schedule_fault}
-use Rattle.seq_cli.specs.Opening.{form_of, Schedules, OpensItems, OpensSchedule, OpensMachine, OpensForm, Opens}
-use Rattle.seq_cli.specs.Endings.{Moment, early, wanting, ran, moment_of, EndsAsked, EndsEarly, Stops}
+use Rattle.seq_cli.specs.Opening.{Schedules, OpensItems, OpensSchedule, OpensMachine, OpensStore, OpensSource, OpensListing, OpensForm, Opens}
+use Rattle.seq_cli.specs.Endings.{Moment, early, wanting, ran, finished, moment_of, EndsAsked, EndsEarly, Stops}
 use Rattle.seq_cli.specs.Loads.{Loads, LoadStops, TextStops, NoValue, NoNext, no_fault, failed_of, error_status, PartsLoaded, PartsStop}
 
 -- an ending that is asked for, where more is asked for, and at any time
@@ -24,11 +30,13 @@ pub ends_more : (Asked More : Opening → Type 0) → ((o : Opening) → Asked o
 ends_more Asked More f (early o) h = f o h
 ends_more Asked More f wanting h = tt
 ends_more Asked More f ran h = absurd h
+ends_more Asked More f finished h = absurd h
 
 pub ends_at_all : (Asked : Opening → Type 0) (e : Moment) → EndsEarly Asked e → EndsAsked Asked e
 ends_at_all Asked (early o) h = h
 ends_at_all Asked wanting h = tt
 ends_at_all Asked ran h = absurd h
+ends_at_all Asked finished h = absurd h
 
 -- a text above the limit violates rule 1, and no other
 fault_above : (fault : List ℕ → Option (ℕ × ℕ)) (text : List ℕ) → file_limit < length text → file_fault fault text ≡ Some (file_limit, 1)
@@ -218,11 +226,22 @@ free_machine map failed schedule files draft o sound h =
     free_parts map failed 0 (names_of draft) files draft.desc (OpensSchedule map failed schedule) (OpensSchedule map None schedule) o sound
     (λ fs d k. free_load (fails failed (length fs)) fs (schedule_fault Built d) Schedules (OpensItems d) (OpensItems d) (map schedule) o sound (λ more items then. then) k) h
 
-free_form : (map : Map) (failed : Option ℕ) (form : Option (List ℕ × List ℕ)) (o : Opening) → (o ≡ faulty → ⊥) → OpensForm map failed form o → OpensForm map None form o
+free_store : (failed : Option ℕ) (files : List (List ℕ)) (i : Image) (o : Opening) → (o ≡ faulty → ⊥) → OpensSource failed files i o → OpensSource None files i o
+free_store failed files i o sound h = free (fails failed (length files)) h
+  where
+    free : (b : Bool) → OpensStore b i o → OpensSource None files i o
+    free true k = absurd (sound k)
+    free false k = k
+
+pub free_form : (map : Map) (failed : Option ℕ) (form : Option Command) (o : Opening) → (o ≡ faulty → ⊥) → OpensForm map failed form o → OpensForm map None form o
 free_form map failed None o sound h = h
-free_form map failed (Some form) o sound h =
-    free_load (fails failed 0) [] description_fault Describes (OpensMachine map failed form.1) (OpensMachine map None form.1) (map form.0) o sound
-    (λ files draft k. free_machine map failed form.1 files draft o sound k) h
+free_form map failed (Some (run machine schedule)) o sound h =
+    free_load (fails failed 0) [] description_fault Describes (OpensMachine map failed schedule) (OpensMachine map None schedule) (map machine) o sound
+    (λ files draft k. free_machine map failed schedule files draft o sound k) h
+free_form map failed (Some (asm source image)) o sound h =
+    free_load (fails failed 0) [] source_fault Makes (OpensSource failed) (OpensSource None) (map source) o sound (λ files i k. free_store failed files i o sound k) h
+free_form map failed (Some (list image)) o sound h =
+    free_load (fails failed 0) [] image_fault Spells OpensListing OpensListing (map image) o sound (λ files i k. k) h
 
 pub free_opening : (words : List (List ℕ)) (map : Map) (failed : Option ℕ) (o : Opening) → (o ≡ faulty → ⊥) → Opens words map failed o → Opens words map None o
 free_opening words map failed o sound h = free_form map failed (form_of words) o sound h

@@ -1,6 +1,7 @@
 -- The files that are loaded, one after another: each has its number in that order, which is how many were loaded before it.
 use Rattle.std.specs.Prelude.{◌≡◌, ℕ, Bool, true, false, ◌==◌, if◌then◌else◌, nat_lt, Option, Some, None, List, [], ◌∷◌, ◌++◌, length}
 use Rattle.seq_words.specs.declared.description.MachineDesc.{MachineDesc}
+use Rattle.seq_loader.specs.declared.image.Image.{Image}
 use Rattle.seq_schedule.specs.declared.script.Item.{Item}
 
 pub data Opening : Type 0 where
@@ -14,6 +15,10 @@ pub data Opening : Type 0 where
   faulty : Opening
   -- a run of these items on this machine, with the contents of all files that were loaded, in their order
   ready : MachineDesc → List Item → List (List ℕ) → Opening
+  -- this image is made of a source, and stored
+  made : Image → Opening
+  -- this image is listed
+  listed : Image → Opening
 
 -- the most bytes of a file
 abbrev pub file_limit : ℕ

@@ -1,7 +1,9 @@
+pub mod Commands
 pub mod Files
 pub mod Parts
 pub mod Opening
 pub mod Endings
+pub mod Stored
 pub mod Loads
 pub mod Top
 pub mod Numbers

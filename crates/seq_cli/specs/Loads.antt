@@ -1,11 +1,11 @@
 -- What the loading of the next file gives.
-use Rattle.std.specs.Prelude.{◌≡◌, ◌≢◌, ℕ, ◌+◌, Option, Some, None, List, [], ◌∷◌, ◌++◌, length}
+use Rattle.std.specs.Prelude.{◌≡◌, ◌≢◌, ◌⊎◌, ℕ, ◌+◌, Option, Some, None, List, [], ◌∷◌, ◌++◌, length}
 use Rattle.seq_words.specs.declared.events.ReadError.{ReadError}
 use Rattle.seq_words.specs.declared.events.ReadError.TheVariants as read
 use Rattle.seq_words.specs.declared.description.MachineDesc.{MachineDesc}
 use Rattle.seq_shelf.specs.Told.{Map}
 use Rattle.seq_cli.specs.declared.status.Status.{Status}
-use Rattle.seq_cli.specs.declared.status.Status.TheVariants.{Refused, ShelfFault, NoMemory}
+use Rattle.seq_cli.specs.declared.status.Status.TheVariants.{Done, Refused, ShelfFault, NoMemory}
 use Rattle.seq_cli.specs.Files.{Opening, usage, file_fault, OpensFile}
 use Rattle.seq_cli.specs.Parts.{part_fault, Completes}
 use Rattle.seq_cli.specs.Endings.{Stops}
@@ -13,6 +13,10 @@ use Rattle.seq_cli.specs.Endings.{Stops}
 -- a status with which a loading ends: an early one, but not usage
 abbrev pub EndsLoading : Status → Type 0
 EndsLoading status = Stops (λ o. o ≢ usage) status
+
+-- the status of a command that makes no run: all is done, or the loading or the store ends it
+abbrev pub EndsStill : Status → Type 0
+EndsStill status = (status ≡ Done) ⊎ EndsLoading status
 
 -- the next file's content has a text that violates no rule, and this value; it is kept behind those before it
 pub record Loads {A : Type 0} (fault : List ℕ → Option (ℕ × ℕ)) (Spelled : List ℕ → A → Type 0) (content : Option (List ℕ)) (before after : List (List ℕ)) (value : A) : Type 0 where

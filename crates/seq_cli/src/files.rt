@@ -26,9 +26,9 @@ const FILE_LIMIT: u64 = 268_435_456;
 /// The rule on a file's length.
 const TOO_LONG: u16 = 1;
 
-// Loads the next file, behind those that were loaded.
+/// Loads the next file, behind those that were loaded.
 #[tactic(auto, using(crate::proofs::Openings::absent_stops, crate::proofs::Openings::long_stops, crate::proofs::Openings::fault_stops))]
-fn load<S: Shelf>(shelf: &mut S, files: &Items<Bytes>, name: &str) -> Result<Bytes, Status>
+pub fn load<S: Shelf>(shelf: &mut S, files: &Items<Bytes>, name: &str) -> Result<Bytes, Status>
     requires { length files.now < 2 ^ 32 }
     ensures same { (S.shelf shelf.new).told ≡ (S.shelf shelf.old).told }
     ensures faults { (S.shelf shelf.old).faults ≤ (S.shelf shelf.new).faults }
@@ -52,8 +52,8 @@ fn load<S: Shelf>(shelf: &mut S, files: &Items<Bytes>, name: &str) -> Result<Byt
     }
 }
 
-// The status of a text that a reader gives no value, where it is that of the next file.
-fn unread(files: &Items<Bytes>, error: ReadError) -> Status
+/// The status of a text that a reader gives no value, where it is that of the next file.
+pub fn unread(files: &Items<Bytes>, error: ReadError) -> Status
     requires { length files.now < 2 ^ 32 }
     ensures value { result ≡ error_status (length files.now) error }
     ensures ends { EndsLoading result }

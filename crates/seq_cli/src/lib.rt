@@ -1,7 +1,9 @@
 //! The top call of the program: what the words and the files ask for, the run, and the status with which it ends.
 #![tactic(auto)]
 
+mod command;
 mod files;
+mod images;
 mod laws;
 mod opening;
 mod parts;

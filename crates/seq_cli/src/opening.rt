@@ -1,11 +1,12 @@
-// What the words and the files ask for: the form of the command, and the files in their order.
+// What the files of a run ask for, in their order.
 ghost use Rattle.std.specs.Prelude.{◌≡◌, ◌<◌, ◌≤◌, ℕ, [], length, IfOk, IfErr, IsErrOf, Some, None, Option, MatchOption, map as list_map, string_bytes};
 ghost use Rattle.seq_words.specs.Description.{IsDescription};
 ghost use Rattle.seq_shelf.specs.Causes.{Rose};
 ghost use Rattle.seq_shelf.specs.Told.{Map};
 ghost use Rattle.seq_schedule.specs.Faultless.{AreFaultless};
 ghost use Rattle.seq_cli.specs.Files.{ready};
-ghost use Rattle.seq_cli.specs.Opening.{is_name, form_of, OpensForm};
+ghost use Rattle.seq_cli.specs.Commands.{run};
+ghost use Rattle.seq_cli.specs.Opening.{OpensForm};
 ghost use Rattle.seq_cli.specs.Endings.{Stops};
 ghost use Rattle.seq_cli.specs.Loads.{EndsLoading};
 
@@ -16,34 +17,6 @@ use seq_schedule::Item;
 use seq_shelf::Shelf;
 use seq_words::{Bytes, Items, MachineDesc};
 use std::alloc::Global;
-
-fn is_name(word: &str) -> bool
-    ensures { result ≡ is_name word.now }
-{
-    match word.as_bytes() {
-        [] => false,
-        [first, ..] => *first != b'-',
-    }
-}
-
-/// The form `run MACHINE SCHEDULE`.
-pub fn read_form(words: &[String]) -> Option<(&str, &str)>
-    ensures { MatchOption result (form_of (list_map string_bytes words.now) ≡ None)
-        (λ form. form_of (list_map string_bytes words.now) ≡ Some (form.0.now, form.1.now)) }
-{
-    match words {
-        [command, machine, schedule] => {
-            let machine = machine.as_str();
-            let schedule = schedule.as_str();
-            if command.as_str() == "run" && is_name(machine) && is_name(schedule) {
-                Some((machine, schedule))
-            } else {
-                None
-            }
-        }
-        _ => None,
-    }
-}
 
 /// What a run begins with.
 #[derive(Drop)]
@@ -65,9 +38,9 @@ pub fn open<S: Shelf>(
     ensures cause { IsErrOf result Status.ShelfFault → Rose (S.shelf shelf.old).faults (S.shelf shelf.new).faults }
     ensures ends { IfErr result EndsLoading }
     ensures ok { (m : Map) → (S.shelf shelf.old).told ≡ Some m →
-        IfOk result (λ x. OpensForm m None (Some (machine.now, schedule.now)) (ready x.desc x.items x.files)) }
+        IfOk result (λ x. OpensForm m None (Some (run machine.now schedule.now)) (ready x.desc x.items x.files)) }
     ensures err { (m : Map) → (S.shelf shelf.old).told ≡ Some m →
-        IfErr result (λ s. (failed : Option ℕ) × Stops (OpensForm m failed (Some (machine.now, schedule.now))) s) }
+        IfErr result (λ s. (failed : Option ℕ) × Stops (OpensForm m failed (Some (run machine.now schedule.now))) s) }
     ensures described { IfOk result (λ x. IsDescription x.desc) }
     ensures faultless { IfOk result (λ x. AreFaultless x.desc x.items) }
 {

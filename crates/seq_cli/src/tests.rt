@@ -1,9 +1,10 @@
 // The files of a machine: several images, and files of segments.
 use crate::Status;
 use crate::files::load_draft;
+use crate::images::{assemble_file, list_file};
 use crate::parts::load_parts;
 use seq_shelf::SoundShelf;
-use seq_words::Items;
+use seq_words::{Bytes, Items};
 use std::alloc::Global;
 use std::test::Fail;
 
@@ -127,6 +128,36 @@ fn parts_are_loaded_in_their_order(rt: HostRuntime) -> Result<(), Fail> {
     let alloc = rt.alloc();
     for row in ROWS {
         assert_eq!(rt; open(alloc, row)?, row.wanted);
+    }
+    Ok(())
+}
+
+fn listing(alloc: Global, source: &str) -> Result<Result<Bytes, Status>, Fail> {
+    let mut shelf = SoundShelf::new(alloc);
+    shelf.put("a.s", source.as_bytes())?;
+    match assemble_file(alloc, &mut shelf, "a.s", "a.sqi") {
+        Ok(_) => Ok(list_file(alloc, &mut shelf, "a.sqi")),
+        Err(status) => Ok(Err(status)),
+    }
+}
+
+// Sources with the listings of their images.
+const LISTINGS: [(&str, &str); 2] = [
+    (
+        "addi x1, x0, 5\n.byte 0x41\n",
+        "00000000 00500093 addi x1, x0, 5\n00000004 41 .byte 0x41\n",
+    ),
+    ("# nothing\n", ""),
+];
+
+#[test]
+fn images_are_listed(rt: HostRuntime) -> Result<(), Fail> {
+    let alloc = rt.alloc();
+    for (source, wanted) in LISTINGS {
+        match listing(alloc, source)? {
+            Ok(text) => assert_eq!(rt; text.as_slice(), wanted.as_bytes()),
+            Err(status) => assert_eq!(rt; status, Status::Done),
+        }
     }
     Ok(())
 }

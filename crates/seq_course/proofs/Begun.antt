@@ -20,6 +20,7 @@ may_begin items h c lines marks hardware starts faultless enough fresh = record 
   ready = record { number = 1; ready = starts_ready h h.desc hardware.described hardware refl starts; room = all_are_few h.desc items hardware.described faultless };
   lines = enough;
   led = record {
+    unchecked = tt;
     machine = record {
       described = refl;
       machine = starts;

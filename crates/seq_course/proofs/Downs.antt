@@ -10,8 +10,7 @@ use Rattle.seq_turns.specs.declared.hand.Hand.TheVariants as hand
 use Rattle.seq_turns.specs.Machines.{Machine, Turn}
 use Rattle.seq_turns.specs.Machines.Turn.{Moves, Looks, Copies_unit, Stops}
 use Rattle.seq_turns.specs.Processors.{turn}
-use Rattle.seq_turns.specs.Duties.{duty, after_duty, rests}
-use Rattle.seq_turns.specs.Events.{is_down, comes_back, stopped, after_turn, after_io, happens}
+use Rattle.seq_turns.specs.Events.{is_down, comes_back, stopped, after_turn, happens}
 use Rattle.seq_turns.proofs.Functions.{update_same, update_other, update_cases}
 
 module _ (d : MachineDesc) (m : Machine) (p : ℕ) (down : m.hand p ≡ hand.Down) where
@@ -32,9 +31,6 @@ module _ (d : MachineDesc) (m : Machine) (p : ℕ) (down : m.hand p ≡ hand.Dow
       go : (p ≡ q) ⊎ (p ≡ q → ⊥) → (after_turn d m q (turn d m q (m.hand q))).hand p ≡ hand.Down
       go (inl e) = subst (λ (k : ℕ). (after_turn d m k (turn d m k (m.hand k))).hand p ≡ hand.Down) e by_itself
       go (inr ne) = by_other q (turn d m q (m.hand q)) ne
-
-  pub io_stays : (i : ℕ) → (after_io d m i).hand p ≡ hand.Down
-  io_stays i = cond_both (rests d m i) m (after_duty d i (m.io i).cursor (duty d m (m.io i).cursor) m) (λ (n : Machine). n.hand p ≡ hand.Down) (λ _. down) (λ _. down)
 
   -- a processor fails, this one or another
   pub failure_stays : (q : Pe) → (happens d m (events.Fail (elements.Processor q))).hand p ≡ hand.Down

@@ -1,9 +1,11 @@
 -- One event, as the hardware makes it: what it comes to in a course.
-use Rattle.std.proofs.Common.{◌≡◌, inl, inr, Option, ℕ, suc, ◌+◌, ◌≤◌, ◌<◌, Bool, List, [], ◌∷◌, ◌++◌, length, refl, sym, ◌∙◌, ap, subst, arith, append-nil}
+use Rattle.std.proofs.Common.{◌≡◌, inl, inr, Option, ℕ, suc, ◌+◌, ◌≤◌, Bool, List, [], ◌∷◌, ◌++◌, length, None, refl, sym, ◌∙◌, ap, subst, arith, append-nil}
 use Rattle.std.proofs.lemmas.List.{length-map}
 use Rattle.seq_words.specs.declared.description.MachineDesc.{MachineDesc}
 use Rattle.seq_words.specs.declared.events.Entry.{Entry}
 use Rattle.seq_words.specs.declared.events.Event.{Event}
+use Rattle.seq_words.specs.declared.kinds.Blocker.{Blocker}
+use Rattle.seq_words.specs.declared.kinds.Element.{Element}
 use Rattle.seq_shelf.specs.Causes.{Rose}
 use Rattle.seq_shelf.specs.Told.{Grows, LineView, ChronicleView}
 use Rattle.seq_shelf.specs.Rows.{AllAccept}
@@ -13,27 +15,26 @@ use Rattle.seq_shelf.proofs.Rows.{grows_more, all_more}
 use Rattle.seq_kernel.specs.declared.outcomes.Note.{Note}
 use Rattle.seq_turns.specs.Machines.{Machine}
 use Rattle.seq_turns.specs.Allowed.{Allowed}
-use Rattle.seq_turns.specs.Events.{happens, note}
-use Rattle.seq_stands.specs.Fit.{Fit, ClearsInOrder}
+use Rattle.seq_turns.specs.Events.{happens, note, check}
+use Rattle.seq_stands.specs.Fit.{Fit}
 use Rattle.seq_stands.specs.FitNumbers.{NumbersFit}
 use Rattle.seq_machine.specs.declared.hardware.Hardware.{Hardware}
 use Rattle.seq_machine.specs.declared.hardware.Stop.{Stop}
 use Rattle.seq_machine.specs.declared.hardware.Stop.TheVariants as stop
 use Rattle.seq_machine.specs.Plain.{Outside, machine_of, outside_of, IsOutside, IsHardware}
 use Rattle.seq_machine.specs.Starting.{no_outside, machine_at_start}
-use Rattle.seq_machine.specs.Built.{IsBuilt, MemoriesServe}
-use Rattle.seq_machine.specs.Settling.{held_copies}
+use Rattle.seq_machine.specs.Built.{IsBuilt}
 use Rattle.seq_machine.specs.Making.{IsReadyFor}
-use Rattle.seq_machine.specs.Processors.{MayTurn}
 use Rattle.seq_machine.specs.Serving.{StopsAt}
 use Rattle.seq_machine.specs.Happening.{sent_in, entries_in, StopsFor, CountsStay, ChronicleStops}
+use Rattle.seq_machine.specs.Checking.{EndsFor}
 use Rattle.seq_machine.proofs.Readiness.{numbers_fit, goes_on}
-use Rattle.seq_machine.proofs.Turnable.{may_turn}
-use Rattle.seq_machine.proofs.Unchanged.{allowed_anywhere, clears_anywhere}
+use Rattle.seq_machine.proofs.Unchanged.{allowed_anywhere}
 use Rattle.seq_course.specs.Course.{machine_after}
+use Rattle.seq_course.specs.Made.{Released, up_to}
 use Rattle.seq_course.specs.Making.{Scene, scene, LedTo, MayCome, Makes, HaltsAt, Breaks}
-use Rattle.seq_course.proofs.Runs.{run-append}
-use Rattle.seq_course.proofs.Told.{IsTold, is_told}
+use Rattle.seq_course.proofs.Runs.{run-append, unchecked-append}
+use Rattle.seq_course.proofs.Told.{IsTold, is_told, TellsNothing, stops_tell_nothing}
 
 -- ---- what an event needs
 -- there are as many outlets as lines are shown
@@ -50,20 +51,8 @@ module _ (e : Event) (a : Scene) (may : MayCome (e ∷ []) a) where
       let here : Allowed may.desc (machine_of a.hardware _) e = subst (λ (m : Machine). Allowed may.desc m e) (sym led.machine) may.allowed.1 in
       subst (λ (d : MachineDesc). Allowed d (machine_of a.hardware no_outside) e) (sym led.described) (allowed_anywhere may.desc a.hardware _ no_outside e built_next here)
 
-  pub clears_next : ClearsInOrder a.hardware.desc (machine_of a.hardware no_outside)
-  clears_next =
-      let led = may.led.machine in
-      let here : ClearsInOrder may.desc (machine_of a.hardware _) = subst (λ (m : Machine). ClearsInOrder may.desc m) (sym led.machine) may.allowed.2 in
-      subst (λ (d : MachineDesc). ClearsInOrder d (machine_of a.hardware no_outside)) (sym led.described) (clears_anywhere may.desc a.hardware _ no_outside here)
-
   pub numbers_next : NumbersFit a.hardware.desc (machine_of a.hardware no_outside)
   numbers_next = (let room = may.ready.room in numbers_fit may.ready.number a.hardware (omega arith) may.ready.ready)
-
-  turns_next : (p : ℕ) → p < a.hardware.desc.processors → MayTurn a.hardware p
-  turns_next p there = may_turn a.hardware p may.ready.ready.hardware may.ready.ready.fit numbers_next may.ready.ready.serving there
-
-  pub told_next : (o : Outside) → IsTold a.hardware.desc (machine_of a.hardware o) e
-  told_next o = is_told a.hardware turns_next o e built_next allowed_next
 
 -- and as many lines as outlets
 pub enough_shown : {I : Type 0} {D : I → Type 0} (line : (x : I) × D x → LineView) (outlets : List (Outlet I D)) (n : ℕ) → n ≤ length outlets → n ≤ length (views line outlets)
@@ -79,6 +68,7 @@ counts_since begun before after one two = record {
 module _ (e : Event) (old new : Hardware) (before after : ChronicleView) (lines new_lines : List LineView) (marks new_marks : List Bool) (n : Note) (may : MayCome (e ∷ []) (scene old before lines marks)) where
   module _ (desc : new.desc ≡ old.desc)
       (machine : (o : Outside) → IsOutside lines marks o → machine_of new (outside_of (happens old.desc (machine_of old o) e)) ≡ happens old.desc (machine_of old o) e)
+      (unchecked : (o : Outside) → IsOutside lines marks o → check old.desc (machine_of old o) e ≡ None)
       (noted : (o : Outside) → IsOutside lines marks o → n ≡ note old.desc (machine_of old o) e)
       (sent : AllAccept lines new_lines (sent_in n))
       (entries : Grows before.told after.told (entries_in n))
@@ -104,7 +94,7 @@ module _ (e : Event) (old new : Hardware) (before after : ChronicleView) (lines 
       is_note = sym (noted o led.machine.shown)
 
       told : IsTold old.desc (machine_of old o) e
-      told = told_next e (scene old before lines marks) may o
+      told = is_told old o e
 
       history_is : m.history ++ entries_in n ≡ next.history
       history_is = ap (λ (x : Note). m.history ++ entries_in x) (sym is_note) ∙ sym told.history ∙ ap (λ (x : Machine). x.history) is_next
@@ -114,6 +104,7 @@ module _ (e : Event) (old new : Hardware) (before after : ChronicleView) (lines 
 
       led_next : LedTo old.desc begun (es ++ e ∷ []) (scene new after new_lines new_marks)
       led_next = record {
+        unchecked = unchecked-append old.desc es (e ∷ []) (machine_at_start old.desc) led.unchecked (subst (λ (x : Machine). check old.desc x e ≡ None) led.machine.machine (unchecked o led.machine.shown), tt);
         machine = record {
           described = desc;
           machine = subst (λ (x : Machine). machine_of new (outside_of x) ≡ x) is_next (machine o led.machine.shown);
@@ -126,11 +117,11 @@ module _ (e : Event) (old new : Hardware) (before after : ChronicleView) (lines 
         counts = counts_since begun.chronicle before after led.counts counts;
       }
 
-    module _ (hung : new_marks ≡ marks) (hardware : IsHardware new) (fit : Fit new.desc (machine_of new no_outside)) (serving : MemoriesServe new.desc (held_copies new)) where
+    module _ (hung : new_marks ≡ marks) (hardware : IsHardware new) (fit : Fit new.desc (machine_of new no_outside)) where
       ready : (k : ℕ) → IsReadyFor (1 + k) old → IsReadyFor k new
       ready k is = record {
         number = suc is.number;
-        ready = goes_on is.number old new e lines marks is.ready (built_next e (scene old before lines marks) may) (allowed_next e (scene old before lines marks) may) hardware desc fit serving machine;
+        ready = goes_on is.number old new e lines marks is.ready (built_next e (scene old before lines marks) may) (allowed_next e (scene old before lines marks) may) hardware desc fit machine;
         room = (let room = is.room in omega (arith, room));
       }
 
@@ -162,21 +153,56 @@ stops_since : (n : Note) (first old new : List LineView) (bytes : ℕ → List �
 stops_since n first old new bytes begun before after s all counts (inl x) = inl (record { line = x.line; sent = x.sent; stops = line_since first old new bytes x.line s all x.stops })
 stops_since n first old new bytes begun before after s all counts (inr x) = inr (record { committed = x.committed; stops = chronicle_since begun before after s counts x.stops })
 
+ends_since : (d : MachineDesc) (m : Machine) (e : Event) (first old new : List LineView) (bytes : ℕ → List ℕ) (begun before after : ChronicleView) (s : Stop)
+    → AllAccept first old bytes → CountsStay begun before → EndsFor d m e old new before after s → EndsFor d m e first new begun after s
+ends_since d m e first old new bytes begun before after s all counts (inl checked) = inl checked
+ends_since d m e first old new bytes begun before after s all counts (inr stops) = inr (stops_since (note d m e) first old new bytes begun before after s all counts stops)
+
+-- what was released before the event is released up to it: a machine check commits nothing and sends nothing
+module _ (d : MachineDesc) (es : List Event) (e : Event) (before after : Option (List Entry)) (old new : List LineView) (first last : List LineView) (begun end : ChronicleView) (released : Released d es before after old new) where
+  abbrev at : Machine
+  at = machine_after d es
+
+  with_check : (x : Element) (b : Blocker) → EndsFor d at e first last begun end (stop.Check x b) → Released d (es ++ e ∷ []) before after old new
+  with_check x b (inl checked) =
+      let none : TellsNothing at (happens d at e) = stops_tell_nothing d at x e checked.0 in
+      let here : Released d es before after old new = released in
+      let is_next : happens d at e ≡ machine_after d (es ++ e ∷ []) = sym (run-append d es (e ∷ []) (machine_at_start d)) in
+      record {
+        history = subst (λ (xs : List Entry). Grows before after xs) (sym none.history ∙ ap (λ (m : Machine). m.history) is_next) here.history;
+        bytes = subst (λ (f : ℕ → List ℕ). AllAccept old new f) (sym none.sent ∙ ap (λ (m : Machine). m.sent) is_next) here.bytes;
+      }
+  with_check x b (inr (inl stops)) = absurd stops.stops
+  with_check x b (inr (inr stops)) = absurd stops.stops
+
+  released_up_to : (s : Stop) → EndsFor d at e first last begun end s → Released d (up_to es e s) before after old new
+  released_up_to (stop.Check x b) ends = with_check x b ends
+  released_up_to (stop.Line l) ends = released
+  released_up_to stop.Chronicle ends = released
+  released_up_to stop.NoMemory ends = released
+
 module _ (e : Event) (old new : Hardware) (before after : ChronicleView) (lines new_lines : List LineView) (marks new_marks : List Bool) (s : Stop)
     (none : AllAccept lines new_lines (λ l. [])) (told : after.told ≡ before.told)
-    (cause : (o : Outside) → IsOutside lines marks o → StopsFor (note old.desc (machine_of old o) e) lines new_lines before after s) where
+    (cause : (o : Outside) → IsOutside lines marks o → EndsFor old.desc (machine_of old o) e lines new_lines before after s) where
   module _ (begun : Scene) (es : List Event) (led : LedTo old.desc begun es (scene old before lines marks)) where
     abbrev at_stop : Machine
     at_stop = machine_after old.desc es
 
+    ends : EndsFor old.desc at_stop e begun.lines new_lines begun.chronicle after s
+    ends = ends_since old.desc at_stop e begun.lines lines new_lines at_stop.sent begun.chronicle before after s led.released.bytes led.counts
+        (subst (λ (x : Machine). EndsFor old.desc x e lines new_lines before after s) led.machine.machine (cause (outside_of at_stop) led.machine.shown))
+
+    before_it : Released old.desc es begun.chronicle.told after.told begun.lines new_lines
+    before_it = record {
+      history = subst (λ (x : Option (List Entry)). Grows begun.chronicle.told x at_stop.history) (sym told) led.released.history;
+      bytes = all_more begun.lines lines new_lines at_stop.sent (λ l. []) at_stop.sent led.released.bytes none (λ l. sym (append-nil (at_stop.sent l)));
+    }
+
     halts_here : HaltsAt old.desc begun es e (scene new after new_lines new_marks) s
     halts_here = record {
-      stops = stops_since (note old.desc at_stop e) begun.lines lines new_lines at_stop.sent begun.chronicle before after s led.released.bytes led.counts
-          (subst (λ (x : Machine). StopsFor (note old.desc x e) lines new_lines before after s) led.machine.machine (cause (outside_of at_stop) led.machine.shown));
-      released = record {
-        history = subst (λ (x : Option (List Entry)). Grows begun.chronicle.told x at_stop.history) (sym told) led.released.history;
-        bytes = all_more begun.lines lines new_lines at_stop.sent (λ l. []) at_stop.sent led.released.bytes none (λ l. sym (append-nil (at_stop.sent l)));
-      };
+      unchecked = led.unchecked;
+      ends = ends;
+      released = released_up_to old.desc es e begun.chronicle.told after.told begun.lines new_lines begun.lines new_lines begun.chronicle after before_it s ends;
     }
 
   pub event_breaks : new_marks ≡ marks → Breaks (e ∷ []) (scene old before lines marks) (scene new after new_lines new_marks) s

@@ -12,12 +12,14 @@ use Rattle.seq_schedule.specs.Scripted.{round_of}
 use Rattle.seq_schedule.specs.Faultless.{AreFaultless}
 use Rattle.seq_machine.specs.declared.hardware.Stop.{Stop}
 use Rattle.seq_machine.specs.Making.{IsReadyFor}
+use Rattle.seq_machine.specs.Starting.{machine_at_start}
 use Rattle.seq_course.specs.Course.{machine_after, made_by, Passes}
 use Rattle.seq_course.specs.Room.{most_of}
-use Rattle.seq_course.specs.Made.{Takes}
+use Rattle.seq_course.specs.Made.{up_to, Takes}
 use Rattle.seq_course.specs.Making.{Scene, LedTo, MayCome, all_of, MakesScript, BreaksScript, MayBegin}
 use Rattle.seq_course.specs.declared.ending.Ending.TheVariants.{Done, OutOfTurns, Stopped}
 use Rattle.seq_course.proofs.Scenes.{ready_less}
+use Rattle.seq_course.proofs.Runs.{unchecked_rest}
 use Rattle.seq_course.proofs.Lists.{next_at, split_at}
 use Rattle.seq_course.proofs.Scripting.{all_may, all_few}
 use Rattle.seq_course.proofs.Allowed.{next_may_make, next_is_few, passes_on}
@@ -84,7 +86,7 @@ module _ (d : MachineDesc) (described : IsDescription d) (items : List Item) (fa
         record {
           events = made.events ++ made_by d item.script on.rounds;
           passes = subst (λ (l : List Item). Passes d [] l (made.events ++ made_by d item.script on.rounds)) (sym (next_at items i item item inside is))
-              (passes_on d (take i items) item made.events (made.events ++ made_by d item.script on.rounds) made.passes (record { rounds = on.rounds; made = on.made; after_is = refl; goes_on = on.ends }));
+              (passes_on d (take i items) item made.events (made.events ++ made_by d item.script on.rounds) made.passes (record { rounds = on.rounds; made = on.made; after_is = refl; unchecked = unchecked_rest d made.events (made_by d item.script on.rounds) (machine_at_start d) on.led.unchecked; goes_on = on.ends }));
           led = on.led;
           ready = makes.keeps.ready (room_of d (drop (i + 1) items)) (ready_less (room_of d (drop i items)) (length (all_of now.hardware.desc item.script) + room_of d (drop (i + 1) items)) now.hardware fits made.ready);
           lines = (let lines = made.lines in let number = makes.keeps.number in omega (arith, lines, number));
@@ -108,6 +110,7 @@ module _ (d : MachineDesc) (described : IsDescription d) (items : List Item) (fa
             rounds = off.rounds;
             made = off.made;
             after_is = refl;
+            unchecked = unchecked_rest d made.events (made_by d item.script off.rounds) (machine_at_start d) off.led.unchecked;
             runs_out = off.ends;
           };
           released = off.led.released;
@@ -119,8 +122,9 @@ module _ (d : MachineDesc) (described : IsDescription d) (items : List Item) (fa
         let in_script = breaks.halts d begun made.events made.led in
         let among = in_script.among in
         record {
-          events = made.events ++ among.part;
+          events = up_to (made.events ++ among.part) among.event stop;
           ends = record {
+            made = made.events ++ among.part;
             event = among.event;
             comes = record {
               front = take i items;
@@ -136,8 +140,10 @@ module _ (d : MachineDesc) (described : IsDescription d) (items : List Item) (fa
               rest = among.rest;
               parts = among.parts;
               after_is = refl;
+              unchecked = unchecked_rest d made.events among.part (machine_at_start d) among.halts.unchecked;
             };
-            stops = among.halts.stops;
+            ends = among.halts.ends;
+            events_are = refl;
           };
           released = among.halts.released;
         }

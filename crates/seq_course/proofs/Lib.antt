@@ -1,8 +1,10 @@
 pub mod Runs
 pub mod Lines
 pub mod Downs
+pub mod StruckHands
+pub mod Agreeing
+pub mod AllowedTroubles
 pub mod Ports
-pub mod Failures
 pub mod Scripts
 pub mod Passing
 pub mod Rooms

@@ -1,53 +1,37 @@
--- What events make of the ports and of the processors that failed: how much has arrived at each port, and whether it is closed;
--- and that what failed is down.
-use Rattle.std.proofs.Common.{◌≡◌, ℕ, suc, ◌+◌, ◌<◌, ◌≤◌, Bool, true, false, ◌||◌, cond, eqb, List, [], ◌∷◌, ◌++◌, length, map, refl, sym, ap, ◌∙◌, subst, arith, eq-eqb}
+-- What events make of the ports: how much has arrived at each, and whether it is closed.
+use Rattle.std.proofs.Common.{◌≡◌, ℕ, suc, ◌+◌, ◌<◌, ◌≤◌, Bool, true, false, ◌||◌, cond, eqb, List, [], ◌∷◌, length, map, refl, sym, ap, ◌∙◌, subst, arith, eq-eqb}
 use Rattle.std.specs.Prelude.{slice_set}
 use Rattle.std.proofs.lemmas.Bool.{cond_both, ne_eqb}
-use Rattle.seq_words.specs.Description.{IsDescription, line_count}
+use Rattle.seq_words.specs.Description.{line_count}
 use Rattle.seq_words.specs.declared.names.LineNo.{LineNo}
 use Rattle.seq_words.specs.declared.description.MachineDesc.{MachineDesc}
 use Rattle.seq_words.specs.declared.events.Event.{Event}
 use Rattle.seq_words.specs.declared.events.Event.TheVariants as events
+use Rattle.seq_words.specs.declared.kinds.Element.TheVariants as elements
 use Rattle.seq_io.specs.declared.element.PortState.{PortState}
-use Rattle.seq_turns.specs.declared.hand.Hand.TheVariants as hand
 use Rattle.seq_turns.specs.Machines.{Machine, Turn}
 use Rattle.seq_turns.specs.Machines.Turn.{Moves, Looks, Copies_unit, Stops}
 use Rattle.seq_turns.specs.Processors.{turn}
 use Rattle.seq_turns.specs.Duties.{Duty, duty, after_duty, rests}
 use Rattle.seq_turns.specs.Allowed.{MayArrive, MayClose, Allowed}
-use Rattle.seq_turns.specs.Events.{after_turn, after_io, happens, run}
+use Rattle.seq_turns.specs.Events.{is_down, stopped, after_turn, after_io, happens, run}
 use Rattle.seq_turns.proofs.Functions.{update_cases}
-use Rattle.seq_invariant.specs.Within.{HoldsWithin}
-use Rattle.seq_invariant.proofs.Within.{events_keep_within}
-use Rattle.seq_machine.specs.Built.{IsBuilt, MemoriesServe}
+use Rattle.seq_machine.specs.Built.{IsBuilt}
 use Rattle.seq_machine.specs.Making.{MayMake}
-use Rattle.seq_machine.proofs.Building.{built_serve, built_goes_on}
-use Rattle.seq_course.proofs.Downs.{turn_stays, io_stays}
+use Rattle.seq_course.specs.Troubles.{IsTrouble}
 
--- All stands and every memory is in service; so much has arrived on each line, and these are closed; the processors that failed
--- are down.
-pub record IsAt (d : MachineDesc) (arrived : ℕ → ℕ) (closed failed : ℕ → Bool) (m : Machine) : Type 0 where
-  pub events : List Event
-  pub holds : HoldsWithin d events m
-  pub serving : MemoriesServe d m.copies
+-- so much has arrived on each line, and these are closed
+pub record IsAt (arrived : ℕ → ℕ) (closed : ℕ → Bool) (m : Machine) : Type 0 where
   pub arrived_is : (l : ℕ) → (m.port l).arrived ≡ arrived l
   pub closed_is : (l : ℕ) → (m.port l).closed ≡ closed l
-  pub downs : (p : ℕ) → failed p ≡ true → m.hand p ≡ hand.Down
 
 -- the events may be made, and lead there
-pub record LeadTo (d : MachineDesc) (es : List Event) (m : Machine) (arrived : ℕ → ℕ) (closed failed : ℕ → Bool) : Type 0 where
+pub record LeadTo (d : MachineDesc) (es : List Event) (m : Machine) (arrived : ℕ → ℕ) (closed : ℕ → Bool) : Type 0 where
   pub may : MayMake d es m
-  pub at : IsAt d arrived closed failed (run d es m)
+  pub at : IsAt arrived closed (run d es m)
 
-pub is_alike : (d : MachineDesc) (a a' : ℕ → ℕ) (c c' f f' : ℕ → Bool) (m : Machine) → ((l : ℕ) → a l ≡ a' l) → ((l : ℕ) → c l ≡ c' l) → ((p : ℕ) → f p ≡ f' p) → IsAt d a c f m → IsAt d a' c' f' m
-is_alike d a a' c c' f f' m arrived closed failed at = record {
-  events = at.events;
-  holds = at.holds;
-  serving = at.serving;
-  arrived_is = λ l. at.arrived_is l ∙ arrived l;
-  closed_is = λ l. at.closed_is l ∙ closed l;
-  downs = λ p is. at.downs p (failed p ∙ is);
-}
+pub is_alike : (a a' : ℕ → ℕ) (c c' : ℕ → Bool) (m : Machine) → ((l : ℕ) → a l ≡ a' l) → ((l : ℕ) → c l ≡ c' l) → IsAt a c m → IsAt a' c' m
+is_alike a a' c c' m arrived closed at = record { arrived_is = λ l. at.arrived_is l ∙ arrived l; closed_is = λ l. at.closed_is l ∙ closed l }
 
 -- ---- turns
 
@@ -100,17 +84,6 @@ counts_stay d m (events.Repair e) is l = absurd is
 counts_stay d m (events.Upset p half reg mask) is l = absurd is
 counts_stay d m (events.Hangup k) is l = absurd is
 
--- no turn brings up what is down
-down_stays : (d : MachineDesc) (m : Machine) (e : Event) → IsTurn d e → (p : ℕ) → m.hand p ≡ hand.Down → (happens d m e).hand p ≡ hand.Down
-down_stays d m (events.Processor q) is p down = turn_stays d m p down q.0
-down_stays d m (events.Io i) is p down = io_stays d m p down i.0
-down_stays d m (events.Input k byte) is p down = absurd is
-down_stays d m (events.Close k) is p down = absurd is
-down_stays d m (events.Fail e) is p down = absurd is
-down_stays d m (events.Repair e) is p down = absurd is
-down_stays d m (events.Upset q half reg mask) is p down = absurd is
-down_stays d m (events.Hangup k) is p down = absurd is
-
 turn_is_built : (d : MachineDesc) (e : Event) → IsTurn d e → IsBuilt e
 turn_is_built d (events.Processor p) is = tt
 turn_is_built d (events.Io i) is = tt
@@ -131,33 +104,56 @@ turn_is_allowed d m (events.Repair e) is = absurd is
 turn_is_allowed d m (events.Upset p half reg mask) is = absurd is
 turn_is_allowed d m (events.Hangup k) is = absurd is
 
-module _ (d : MachineDesc) (described : IsDescription d) where
-  -- an event that may be made, with what it makes of the ports and of what failed
-  pub goes : (a a' : ℕ → ℕ) (c c' f f' : ℕ → Bool) (m : Machine) (e : Event) → IsBuilt e → Allowed d m e → ((l : ℕ) → ((happens d m e).port l).arrived ≡ a' l) → ((l : ℕ) → ((happens d m e).port l).closed ≡ c' l)
-      → ((p : ℕ) → f' p ≡ true → (happens d m e).hand p ≡ hand.Down) → IsAt d a c f m → IsAt d a' c' f' (happens d m e)
-  goes a a' c c' f f' m e built allowed arrived closed downs at = record {
-    events = at.events ++ e ∷ [];
-    holds = events_keep_within d at.events m e described allowed (built_goes_on d m e built at.serving) at.holds;
-    serving = built_serve d m e built at.serving;
-    arrived_is = arrived;
-    closed_is = closed;
-    downs = downs;
+-- ---- failures, repairs and strikes
+-- none changes a port
+trouble_ports : (d : MachineDesc) (m : Machine) (e : Event) → IsTrouble e → (l : ℕ) → (happens d m e).port l ≡ m.port l
+trouble_ports d m (events.Fail (elements.Processor p)) is l = cond_both (is_down (m.hand p.0)) m (stopped m p.0) (λ (n : Machine). n.port l ≡ m.port l) (λ _. refl) (λ _. refl)
+trouble_ports d m (events.Fail (elements.Memory i)) is l = refl
+trouble_ports d m (events.Fail (elements.Io i)) is l = refl
+trouble_ports d m (events.Repair (elements.Processor p)) is l = refl
+trouble_ports d m (events.Repair (elements.Memory i)) is l = refl
+trouble_ports d m (events.Repair (elements.Io i)) is l = refl
+trouble_ports d m (events.Upset p half reg mask) is l = refl
+trouble_ports d m (events.Processor p) is l = absurd is
+trouble_ports d m (events.Io i) is l = absurd is
+trouble_ports d m (events.Input k byte) is l = absurd is
+trouble_ports d m (events.Close k) is l = absurd is
+trouble_ports d m (events.Hangup k) is l = absurd is
+
+trouble_is_built : (e : Event) → IsTrouble e → IsBuilt e
+trouble_is_built (events.Fail e) is = tt
+trouble_is_built (events.Repair e) is = tt
+trouble_is_built (events.Upset p half reg mask) is = tt
+trouble_is_built (events.Processor p) is = absurd is
+trouble_is_built (events.Io i) is = absurd is
+trouble_is_built (events.Input k byte) is = absurd is
+trouble_is_built (events.Close k) is = absurd is
+trouble_is_built (events.Hangup k) is = absurd is
+
+module _ (d : MachineDesc) where
+  pub trouble_leads : (a : ℕ → ℕ) (c : ℕ → Bool) (m : Machine) (e : Event) → IsTrouble e → Allowed d m e → IsAt a c m → LeadTo d (e ∷ []) m a c
+  trouble_leads a c m e is allowed at = record {
+    may = (trouble_is_built e is, allowed, λ none. tt);
+    at = record {
+      arrived_is = λ l. ap (λ (port : PortState). port.arrived) (trouble_ports d m e is l) ∙ at.arrived_is l;
+      closed_is = λ l. ap (λ (port : PortState). port.closed) (trouble_ports d m e is l) ∙ at.closed_is l;
+    };
   }
 
-  turn_goes : (a : ℕ → ℕ) (c f : ℕ → Bool) (m : Machine) (e : Event) → IsTurn d e → IsAt d a c f m → IsAt d a c f (happens d m e)
-  turn_goes a c f m e is at = goes a a c c f f m e (turn_is_built d e is) (turn_is_allowed d m e is) (λ l. (counts_stay d m e is l).arrived ∙ at.arrived_is l) (λ l. (counts_stay d m e is l).closed ∙ at.closed_is l)
-      (λ p failed. down_stays d m e is p (at.downs p failed)) at
+  -- ---- turns, one after the other
+  turn_goes : (a : ℕ → ℕ) (c : ℕ → Bool) (m : Machine) (e : Event) → IsTurn d e → IsAt a c m → IsAt a c (happens d m e)
+  turn_goes a c m e is at = record { arrived_is = λ l. (counts_stay d m e is l).arrived ∙ at.arrived_is l; closed_is = λ l. (counts_stay d m e is l).closed ∙ at.closed_is l }
 
-  pub turns_lead : (a : ℕ → ℕ) (c f : ℕ → Bool) (m : Machine) (es : List Event) → AreTurns d es → IsAt d a c f m → LeadTo d es m a c f
-  turns_lead a c f m [] are at = record { may = tt; at = at }
-  turns_lead a c f m (e ∷ es) are at =
-      let rest = turns_lead a c f (happens d m e) es are.1 (turn_goes a c f m e are.0 at) in
-      record { may = (turn_is_built d e are.0, turn_is_allowed d m e are.0, at.holds.clears, rest.may); at = rest.at }
+  pub turns_lead : (a : ℕ → ℕ) (c : ℕ → Bool) (m : Machine) (es : List Event) → AreTurns d es → IsAt a c m → LeadTo d es m a c
+  turns_lead a c m [] are at = record { may = tt; at = at }
+  turns_lead a c m (e ∷ es) are at =
+      let rest = turns_lead a c (happens d m e) es are.1 (turn_goes a c m e are.0 at) in
+      record { may = (turn_is_built d e are.0, turn_is_allowed d m e are.0, λ none. rest.may); at = rest.at }
 
   -- ---- a byte arrives, and a line is closed
 
-  input_goes : (a : ℕ → ℕ) (c f : ℕ → Bool) (m : Machine) (k : LineNo) (byte : ℕ) → MayArrive d k.0 (m.port k.0) → IsAt d a c f m → IsAt d (λ l. cond (eqb l k.0) 1 0 + a l) c f (happens d m (events.Input k byte))
-  input_goes a c f m k byte may at = goes a (λ l. cond (eqb l k.0) 1 0 + a l) c c f f m (events.Input k byte) tt may arrived closed at.downs at
+  input_goes : (a : ℕ → ℕ) (c : ℕ → Bool) (m : Machine) (k : LineNo) (byte : ℕ) → IsAt a c m → IsAt (λ l. cond (eqb l k.0) 1 0 + a l) c (happens d m (events.Input k byte))
+  input_goes a c m k byte at = record { arrived_is = arrived; closed_is = closed }
     where
       new : PortState
       new = record (m.port k.0) { arrived = suc (m.port k.0).arrived; store = slice_set (m.port k.0).store (m.port k.0).arrived byte }
@@ -170,8 +166,8 @@ module _ (d : MachineDesc) (described : IsDescription d) where
       closed : (l : ℕ) → ((happens d m (events.Input k byte)).port l).closed ≡ c l
       closed l = update_cases (λ (p : PortState). p.closed ≡ c l) m.port k.0 new l (λ e. at.closed_is k.0 ∙ sym (ap c e)) (λ ne. at.closed_is l)
 
-  close_goes : (a : ℕ → ℕ) (c f : ℕ → Bool) (m : Machine) (k : LineNo) → MayClose d k.0 (m.port k.0) → IsAt d a c f m → IsAt d a (λ l. eqb l k.0 || c l) f (happens d m (events.Close k))
-  close_goes a c f m k may at = goes a a c (λ l. eqb l k.0 || c l) f f m (events.Close k) tt may arrived closed at.downs at
+  close_goes : (a : ℕ → ℕ) (c : ℕ → Bool) (m : Machine) (k : LineNo) → IsAt a c m → IsAt a (λ l. eqb l k.0 || c l) (happens d m (events.Close k))
+  close_goes a c m k at = record { arrived_is = arrived; closed_is = closed }
     where
       new : PortState
       new = record (m.port k.0) { closed = true }
@@ -184,29 +180,29 @@ module _ (d : MachineDesc) (described : IsDescription d) where
           (λ e. sym (ap (λ b. b || c l) (eq-eqb l k.0 e)))
           (λ ne. at.closed_is l ∙ sym (ap (λ b. b || c l) (ne_eqb l k.0 ne)))
 
-  pub close_leads : (a : ℕ → ℕ) (c f : ℕ → Bool) (m : Machine) (k : LineNo) → k.0 < line_count d → c k.0 ≡ false → IsAt d a c f m → LeadTo d (events.Close k ∷ []) m a (λ l. eqb l k.0 || c l) f
-  close_leads a c f m k there unclosed at =
+  pub close_leads : (a : ℕ → ℕ) (c : ℕ → Bool) (m : Machine) (k : LineNo) → k.0 < line_count d → c k.0 ≡ false → IsAt a c m → LeadTo d (events.Close k ∷ []) m a (λ l. eqb l k.0 || c l)
+  close_leads a c m k there unclosed at =
       let may : MayClose d k.0 (m.port k.0) = record { line = there; unclosed = at.closed_is k.0 ∙ unclosed } in
-      record { may = (tt, may, at.holds.clears, tt); at = close_goes a c f m k may at }
+      record { may = (tt, may, λ none. tt); at = close_goes a c m k at }
 
-  none : (b : Bool) (n : ℕ) → n ≡ cond b 0 0 + n
-  none true n = omega arith
-  none false n = omega arith
+  no_more : (b : Bool) (n : ℕ) → n ≡ cond b 0 0 + n
+  no_more true n = omega arith
+  no_more false n = omega arith
 
   one_more : (b : Bool) (n k : ℕ) → cond b (suc n) 0 + k ≡ cond b n 0 + (cond b 1 0 + k)
   one_more true n k = omega arith
   one_more false n k = omega arith
 
-  pub inputs_lead : (a : ℕ → ℕ) (c f : ℕ → Bool) (m : Machine) (k : LineNo) (bytes : List ℕ) → k.0 < line_count d → a k.0 + length bytes ≤ d.journal → c k.0 ≡ false → IsAt d a c f m
-      → LeadTo d (map (λ byte. events.Input k byte) bytes) m (λ l. cond (eqb l k.0) (length bytes) 0 + a l) c f
-  inputs_lead a c f m k [] there room unclosed at = record { may = tt; at = is_alike d a (λ l. cond (eqb l k.0) 0 0 + a l) c c f f m (λ l. none (eqb l k.0) (a l)) (λ l. refl) (λ p. refl) at }
-  inputs_lead a c f m k (byte ∷ bytes) there room unclosed at =
+  pub inputs_lead : (a : ℕ → ℕ) (c : ℕ → Bool) (m : Machine) (k : LineNo) (bytes : List ℕ) → k.0 < line_count d → a k.0 + length bytes ≤ d.journal → c k.0 ≡ false → IsAt a c m
+      → LeadTo d (map (λ byte. events.Input k byte) bytes) m (λ l. cond (eqb l k.0) (length bytes) 0 + a l) c
+  inputs_lead a c m k [] there room unclosed at = record { may = tt; at = is_alike a (λ l. cond (eqb l k.0) 0 0 + a l) c c m (λ l. no_more (eqb l k.0) (a l)) (λ l. refl) at }
+  inputs_lead a c m k (byte ∷ bytes) there room unclosed at =
       let now : (m.port k.0).arrived ≡ a k.0 = at.arrived_is k.0 in
       let may : MayArrive d k.0 (m.port k.0) = record { line = there; room = omega (arith, now, room); unclosed = at.closed_is k.0 ∙ unclosed } in
       let left : cond (eqb k.0 k.0) 1 0 + a k.0 + length bytes ≤ d.journal = rw (eq-eqb k.0 k.0 refl) (omega (arith, room)) in
-      let rest = inputs_lead (λ l. cond (eqb l k.0) 1 0 + a l) c f (happens d m (events.Input k byte)) k bytes there left unclosed (input_goes a c f m k byte may at) in
+      let rest = inputs_lead (λ l. cond (eqb l k.0) 1 0 + a l) c (happens d m (events.Input k byte)) k bytes there left unclosed (input_goes a c m k byte at) in
       record {
-        may = (tt, may, at.holds.clears, rest.may);
-        at = is_alike d (λ l. cond (eqb l k.0) (length bytes) 0 + (cond (eqb l k.0) 1 0 + a l)) (λ l. cond (eqb l k.0) (length (byte ∷ bytes)) 0 + a l) c c f f (run d (map (λ b. events.Input k b) (byte ∷ bytes)) m)
-            (λ l. sym (one_more (eqb l k.0) (length bytes) (a l))) (λ l. refl) (λ p. refl) rest.at;
+        may = (tt, may, λ none. rest.may);
+        at = is_alike (λ l. cond (eqb l k.0) (length bytes) 0 + (cond (eqb l k.0) 1 0 + a l)) (λ l. cond (eqb l k.0) (length (byte ∷ bytes)) 0 + a l) c c (run d (map (λ b. events.Input k b) (byte ∷ bytes)) m)
+            (λ l. sym (one_more (eqb l k.0) (length bytes) (a l))) (λ l. refl) rest.at;
       }

@@ -8,19 +8,13 @@ use Rattle.seq_words.specs.declared.events.Event.{Event}
 use Rattle.seq_schedule.specs.declared.script.Script.{Script}
 use Rattle.seq_schedule.specs.Scripted.{times, turn_of}
 use Rattle.seq_turns.specs.Machines.{Machine}
-use Rattle.seq_turns.specs.Events.{happens, run}
 use Rattle.seq_machine.specs.declared.hardware.Hardware.{Hardware}
 use Rattle.seq_machine.specs.declared.hardware.Stop.{Stop}
 use Rattle.seq_machine.specs.Making.{MayMake, IsReadyFor}
 use Rattle.seq_machine.specs.Starting.{machine_at_start}
 use Rattle.seq_course.specs.Course.{machine_after}
-use Rattle.seq_course.proofs.Runs.{run-append, may_begin}
+use Rattle.seq_course.proofs.Runs.{run-append, may_begin, may_follow, unchecked_rest}
 use Rattle.seq_course.specs.Making.{Scene, LedTo, MayCome, Makes, HaltsAt, Breaks, BreaksScript}
-
--- what may be made behind a part
-pub rest_may : (d : MachineDesc) (xs ys : List Event) (m : Machine) → MayMake d (xs ++ ys) m → MayMake d ys (run d xs m)
-rest_may d [] ys m may = may
-rest_may d (x ∷ xs) ys m may = rest_may d xs ys (happens d m x) may.3
 
 -- room for more is room for less
 pub ready_less : (n k : ℕ) (h : Hardware) → k ≤ n → IsReadyFor n h → IsReadyFor k h
@@ -63,7 +57,8 @@ may_rest xs ys a b may one = record {
   begun = may.begun;
   made = may.made ++ xs;
   led = one.led may.desc may.begun may.made may.led;
-  allowed = subst (λ (m : Machine). MayMake may.desc ys m) (sym (run-append may.desc may.made xs (machine_at_start may.desc))) (rest_may may.desc xs ys (machine_after may.desc may.made) may.allowed);
+  allowed = subst (λ (m : Machine). MayMake may.desc ys m) (sym (run-append may.desc may.made xs (machine_at_start may.desc))) (
+      may_follow may.desc xs ys (machine_after may.desc may.made) may.allowed (unchecked_rest may.desc may.made xs (machine_at_start may.desc) (one.led may.desc may.begun may.made may.led).unchecked));
 }
 
 -- the first part breaks, or the second does

@@ -1,12 +1,13 @@
--- What an event adds to the history and to the bytes sent is what its note says.
-use Rattle.std.proofs.Common.{◌≡◌, inl, inr, ℕ, ◌<◌, ◌==◌, List, [], ◌++◌, Option, Some, None, refl, sym, ◌∙◌, ap, append-nil, eq-eqb}
+-- What an event adds to the history and to the bytes sent is what its note says; one that stops an element adds nothing.
+use Rattle.std.proofs.Common.{◌≡◌, inl, inr, ℕ, ◌==◌, if◌then◌else◌, List, [], ◌++◌, Option, Some, None, refl, sym, ◌∙◌, ap, append-nil, eq-eqb}
 use Rattle.std.proofs.lemmas.Bool.{cond_both, cases_Bool, cond-true, cond-false, ne_eqb}
 use Rattle.seq_words.specs.declared.description.MachineDesc.{MachineDesc}
 use Rattle.seq_words.specs.declared.events.Entry.{Entry}
 use Rattle.seq_words.specs.declared.events.Event.{Event}
 use Rattle.seq_words.specs.declared.events.Event.TheVariants as event
-use Rattle.seq_words.specs.declared.names.Pe.{Pe}
+use Rattle.seq_words.specs.declared.kinds.Element.{Element}
 use Rattle.seq_words.specs.declared.kinds.Element.TheVariants as element
+use Rattle.seq_words.specs.declared.names.Pe.{Pe}
 use Rattle.seq_shelf.specs.Rows.{on_line}
 use Rattle.seq_io.specs.Turns.{bytes_of}
 use Rattle.seq_kernel.specs.declared.outcomes.Note.{Note}
@@ -16,19 +17,14 @@ use Rattle.seq_turns.specs.Machines.{Machine, Turn, history_after}
 use Rattle.seq_turns.specs.Machines.Turn.{Moves, Looks, Copies_unit, Stops}
 use Rattle.seq_turns.specs.Duties.{duty, after_duty, rests, sent_after}
 use Rattle.seq_turns.specs.Processors.{turn}
-use Rattle.seq_turns.specs.Allowed.{Allowed}
-use Rattle.seq_turns.specs.Events.{is_down, stopped, after_turn, after_io, happens, note, note_of_turn}
+use Rattle.seq_turns.specs.Events.{is_down, stopped, after_turn, after_io, happens, note, note_of_turn, stops, stopping}
 use Rattle.seq_turns.proofs.Functions.{update_cases}
 use Rattle.seq_machine.specs.declared.hardware.Hardware.{Hardware}
-use Rattle.seq_machine.specs.Built.{IsBuilt}
 use Rattle.seq_machine.specs.Here.{commit_of}
 use Rattle.seq_machine.specs.Plain.{Outside, machine_of}
-use Rattle.seq_machine.specs.Processors.{MayTurn}
 use Rattle.seq_machine.specs.Serving.{sent_by}
-use Rattle.seq_machine.specs.Starting.{no_outside}
 use Rattle.seq_machine.specs.Happening.{sent_in, entries_in, entries_of}
-use Rattle.seq_machine.proofs.Commits.{turn_tells}
-use Rattle.seq_machine.proofs.EventParts.{turn_unsent}
+use Rattle.seq_machine.proofs.Commits.{TellsCommit, turn_tells}
 use Rattle.seq_machine.proofs.Outgoing.{sent_told, nothing_committed}
 use Rattle.seq_machine.proofs.Unchanged.{turn_sends_none}
 
@@ -43,21 +39,21 @@ turn_adds d m p (Looks next move) = entry_more move.commit m.history
 turn_adds d m p (Copies_unit i) = entry_more None m.history
 turn_adds d m p Stops = entry_more None m.history
 
-module _ (h : Hardware) (p : ℕ) (may : MayTurn h p) (o : Outside) where
+module _ (h : Hardware) (p : ℕ) (o : Outside) where
   abbrev m : Machine
   m = machine_of h o
 
   abbrev t : Turn
   t = turn h.desc m p (m.hand p)
 
-  told : entries_of (commit_of t) ≡ entries_in (note_of_turn p t)
-  told = sym (turn_tells h p may.uncopied o).told
+  told : TellsCommit p t
+  told = turn_tells h p o
 
   turn_told : (after_turn h.desc m p t).history ≡ o.history ++ entries_in (note_of_turn p t)
-  turn_told = turn_adds h.desc m p t ∙ ap (λ (xs : List Entry). o.history ++ xs) told
+  turn_told = turn_adds h.desc m p t ∙ ap (λ (xs : List Entry). o.history ++ xs) (sym told.told)
 
   turn_sent : (l : ℕ) → (after_turn h.desc m p t).sent l ≡ o.sent l ++ sent_in (note_of_turn p t) l
-  turn_sent l = ap (λ (f : ℕ → List ℕ). f l) (turn_sends_none h.desc m p t).0 ∙ sym (append-nil (o.sent l)) ∙ ap (λ (xs : List ℕ). o.sent l ++ xs) (sym (turn_unsent h p may o l))
+  turn_sent l = ap (λ (f : ℕ → List ℕ). f l) (turn_sends_none h.desc m p t).0 ∙ sym (append-nil (o.sent l)) ∙ ap (λ (xs : List ℕ). o.sent l ++ xs) (sym (told.unsent l))
 
 -- ---- an I/O element
 byte_more : (o : Option ℕ) (bytes : List ℕ) → sent_after o bytes ≡ bytes ++ bytes_of o
@@ -107,22 +103,48 @@ module _ (d : MachineDesc) (m : Machine) (e : Pe) where
       ∙ sym (append-nil (m.sent l))
       ∙ ap (λ (xs : List ℕ). m.sent l ++ xs) (cond_both (is_down (m.hand e.0)) Made (Stopped (element.Processor e)) (λ (n : Note). [] ≡ sent_in n l) (λ _. refl) (λ _. refl))
 
--- ---- any event that the machine makes
+-- ---- any event
 pub record IsTold (d : MachineDesc) (m : Machine) (e : Event) : Type 0 where
   pub history : (happens d m e).history ≡ m.history ++ entries_in (note d m e)
   pub sent : (l : ℕ) → (happens d m e).sent l ≡ m.sent l ++ sent_in (note d m e) l
 
-module _ (h : Hardware) (turns : (p : ℕ) → p < h.desc.processors → MayTurn h p) (o : Outside) where
-  pub is_told : (e : Event) → IsBuilt e → Allowed h.desc (machine_of h no_outside) e → IsTold h.desc (machine_of h o) e
-  is_told (event.Processor p) built there = record { history = turn_told h p.0 (turns p.0 there) o; sent = turn_sent h p.0 (turns p.0 there) o }
-  is_told (event.Io i) built there = record { history = io_told h.desc (machine_of h o) i.0; sent = io_sent h.desc (machine_of h o) i.0 }
-  is_told (event.Input l byte) built there = record { history = sym (append-nil o.history); sent = λ k. sym (append-nil (o.sent k)) }
-  is_told (event.Close l) built there = record { history = sym (append-nil o.history); sent = λ k. sym (append-nil (o.sent k)) }
-  is_told (event.Fail (element.Processor p)) built there = record { history = failure_told h.desc (machine_of h o) p; sent = failure_sent h.desc (machine_of h o) p }
-  is_told (event.Fail (element.Memory i)) built there = absurd built
-  is_told (event.Fail (element.Io i)) built there = absurd built
-  is_told (event.Repair (element.Processor p)) built there = record { history = sym (append-nil o.history); sent = λ k. sym (append-nil (o.sent k)) }
-  is_told (event.Repair (element.Memory i)) built there = absurd built
-  is_told (event.Repair (element.Io i)) built there = absurd built
-  is_told (event.Upset p half reg mask) built there = absurd built
-  is_told (event.Hangup l) built there = absurd built
+module _ (h : Hardware) (o : Outside) where
+  pub is_told : (e : Event) → IsTold h.desc (machine_of h o) e
+  is_told (event.Processor p) = record { history = turn_told h p.0 o; sent = turn_sent h p.0 o }
+  is_told (event.Io i) = record { history = io_told h.desc (machine_of h o) i.0; sent = io_sent h.desc (machine_of h o) i.0 }
+  is_told (event.Input l byte) = record { history = sym (append-nil o.history); sent = λ k. sym (append-nil (o.sent k)) }
+  is_told (event.Close l) = record { history = sym (append-nil o.history); sent = λ k. sym (append-nil (o.sent k)) }
+  is_told (event.Fail (element.Processor p)) = record { history = failure_told h.desc (machine_of h o) p; sent = failure_sent h.desc (machine_of h o) p }
+  is_told (event.Fail (element.Memory i)) = record { history = sym (append-nil o.history); sent = λ k. sym (append-nil (o.sent k)) }
+  is_told (event.Fail (element.Io i)) = record { history = sym (append-nil o.history); sent = λ k. sym (append-nil (o.sent k)) }
+  is_told (event.Repair (element.Processor p)) = record { history = sym (append-nil o.history); sent = λ k. sym (append-nil (o.sent k)) }
+  is_told (event.Repair (element.Memory i)) = record { history = sym (append-nil o.history); sent = λ k. sym (append-nil (o.sent k)) }
+  is_told (event.Repair (element.Io i)) = record { history = sym (append-nil o.history); sent = λ k. sym (append-nil (o.sent k)) }
+  is_told (event.Upset p half reg mask) = record { history = sym (append-nil o.history); sent = λ k. sym (append-nil (o.sent k)) }
+  is_told (event.Hangup l) = record { history = sym (append-nil o.history); sent = λ k. sym (append-nil (o.sent k)) }
+
+-- ---- an event that stops an element commits nothing and sends nothing
+pub record TellsNothing (m made : Machine) : Type 0 where
+  pub history : made.history ≡ m.history
+  pub sent : made.sent ≡ m.sent
+
+module _ (d : MachineDesc) (m : Machine) (x : Element) where
+  stop_tells : (p : Pe) (t : Turn) → (if stops t then Some (element.Processor p) else None) ≡ Some x → TellsNothing m (after_turn d m p.0 t)
+  stop_tells p (Moves move) e = absurd (let c : ⊥ = cc in c)
+  stop_tells p (Looks next move) e = absurd (let c : ⊥ = cc in c)
+  stop_tells p (Copies_unit i) e = absurd (let c : ⊥ = cc in c)
+  stop_tells p Stops e = record { history = refl; sent = refl }
+
+  pub stops_tell_nothing : (e : Event) → stopping d m e ≡ Some x → TellsNothing m (happens d m e)
+  stops_tell_nothing (event.Processor p) is = stop_tells p (turn d m p.0 (m.hand p.0)) is
+  stops_tell_nothing (event.Io i) is = absurd (let c : ⊥ = cc in c)
+  stops_tell_nothing (event.Input l byte) is = record { history = refl; sent = refl }
+  stops_tell_nothing (event.Close l) is = record { history = refl; sent = refl }
+  stops_tell_nothing (event.Fail (element.Processor p)) is = cond_both (is_down (m.hand p.0)) m (stopped m p.0) (TellsNothing m) (λ _. record { history = refl; sent = refl }) (λ _. record { history = refl; sent = refl })
+  stops_tell_nothing (event.Fail (element.Memory i)) is = record { history = refl; sent = refl }
+  stops_tell_nothing (event.Fail (element.Io i)) is = record { history = refl; sent = refl }
+  stops_tell_nothing (event.Repair (element.Processor p)) is = record { history = refl; sent = refl }
+  stops_tell_nothing (event.Repair (element.Memory i)) is = record { history = refl; sent = refl }
+  stops_tell_nothing (event.Repair (element.Io i)) is = record { history = refl; sent = refl }
+  stops_tell_nothing (event.Upset p half reg mask) is = record { history = refl; sent = refl }
+  stops_tell_nothing (event.Hangup l) is = record { history = refl; sent = refl }

@@ -1,5 +1,5 @@
 -- The course of a schedule: the events that its items make of the machine, from its start.
-use Rattle.std.specs.Prelude.{◌≡◌, ℕ, ◌<◌, ◌≤◌, List, [], ◌∷◌, ◌++◌}
+use Rattle.std.specs.Prelude.{◌≡◌, ℕ, ◌<◌, ◌≤◌, None, List, [], ◌∷◌, ◌++◌}
 use Rattle.seq_words.specs.declared.description.MachineDesc.{MachineDesc}
 use Rattle.seq_words.specs.declared.events.Event.{Event}
 use Rattle.seq_schedule.specs.declared.script.Script.{Script}
@@ -7,13 +7,18 @@ use Rattle.seq_schedule.specs.declared.script.Script.TheVariants as scripts
 use Rattle.seq_schedule.specs.declared.script.Item.{Item}
 use Rattle.seq_schedule.specs.Scripted.{times, round_of, events_in}
 use Rattle.seq_turns.specs.Machines.{Machine}
-use Rattle.seq_turns.specs.Events.{run}
+use Rattle.seq_turns.specs.Events.{happens, check, run}
 use Rattle.seq_lines.specs.Settled.{IsSettled}
 use Rattle.seq_machine.specs.Starting.{machine_at_start}
 
 -- the machine of a description after these events, from its start
 abbrev pub machine_after : MachineDesc → List Event → Machine
 machine_after d es = run d es (machine_at_start d)
+
+-- None of these events, made one after the other, is a machine check.
+abbrev pub AreUnchecked : MachineDesc → List Event → Machine → Type 0
+AreUnchecked d [] m = Unit {0}
+AreUnchecked d (e ∷ es) m = (check d m e ≡ None) × AreUnchecked d es (happens d m e)
 
 -- it is settled then
 abbrev pub SettledAfter : MachineDesc → List Event → Type 0
@@ -52,11 +57,13 @@ RunsOut d (scripts.Bytes l bytes) k es = ⊥
 RunsOut d (scripts.Turns e n) k es = ⊥
 RunsOut d (scripts.Rounds n) k es = ⊥
 
--- The script of an item is made behind some events, with k rounds of a `finish`: all of it, and the next item follows.
+-- The script of an item is made behind some events, with k rounds of a `finish`: all of it, without a machine check, and the next
+-- item follows.
 pub record GoesOnTo (d : MachineDesc) (es : List Event) (s : Script) (after : List Event) : Type 0 where
   pub rounds : ℕ
   pub made : HasMade d es s rounds
   pub after_is : after ≡ es ++ made_by d s rounds
+  pub unchecked : AreUnchecked d (made_by d s rounds) (machine_after d es)
   pub goes_on : GoesOn d s after
 
 -- All items are made behind some events, and these are the events then.
@@ -64,7 +71,7 @@ unfoldable pub Passes : MachineDesc → List Event → List Item → List Event 
 Passes d es [] after = after ≡ es
 Passes d es (i ∷ items) after = (next : List Event) × GoesOnTo d es i.script next × Passes d next items after
 
--- Some items are made, and the `finish` of the next one, on this line, runs out of turns.
+-- Some items are made, and the `finish` of the next one, on this line, runs out of turns without a machine check.
 pub record EndsAt (d : MachineDesc) (items : List Item) (line : ℕ) (after : List Event) : Type 0 where
   pub front : List Item
   pub item : Item
@@ -76,9 +83,10 @@ pub record EndsAt (d : MachineDesc) (items : List Item) (line : ℕ) (after : Li
   pub rounds : ℕ
   pub made : HasMade d before item.script rounds
   pub after_is : after ≡ before ++ made_by d item.script rounds
+  pub unchecked : AreUnchecked d (made_by d item.script rounds) (machine_after d before)
   pub runs_out : RunsOut d item.script rounds after
 
--- Some items are made, and a part of the next one, on this line: after these events its next event is e.
+-- Some items are made, and a part of the next one, on this line, without a machine check: after these events its next event is e.
 pub record ComesTo (d : MachineDesc) (items : List Item) (line : ℕ) (after : List Event) (e : Event) : Type 0 where
   pub front : List Item
   pub item : Item
@@ -93,3 +101,4 @@ pub record ComesTo (d : MachineDesc) (items : List Item) (line : ℕ) (after : L
   pub rest : List Event
   pub parts : made_by d item.script rounds ≡ part ++ e ∷ rest
   pub after_is : after ≡ before ++ part
+  pub unchecked : AreUnchecked d part (machine_after d before)

@@ -3,3 +3,4 @@ pub mod Made
 pub mod Making
 pub mod Room
 pub mod Done
+pub mod Troubles

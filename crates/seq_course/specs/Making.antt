@@ -8,14 +8,15 @@ use Rattle.seq_shelf.specs.Told.{LineView, ChronicleView}
 use Rattle.seq_schedule.specs.declared.script.Script.{Script}
 use Rattle.seq_schedule.specs.declared.script.Item.{Item}
 use Rattle.seq_schedule.specs.Scripted.{events_in}
-use Rattle.seq_turns.specs.Events.{note}
 use Rattle.seq_machine.specs.declared.hardware.Hardware.{Hardware}
 use Rattle.seq_machine.specs.declared.hardware.Stop.{Stop}
-use Rattle.seq_machine.specs.Happening.{CountsStay, StopsFor}
+use Rattle.seq_machine.specs.Happening.{CountsStay}
+use Rattle.seq_machine.specs.Checking.{EndsFor}
 use Rattle.seq_machine.specs.Making.{MayMake, IsReadyFor}
-use Rattle.seq_course.specs.Course.{machine_after, HasMade, made_by, GoesOn, RunsOut}
+use Rattle.seq_machine.specs.Starting.{machine_at_start}
+use Rattle.seq_course.specs.Course.{machine_after, AreUnchecked, HasMade, made_by, GoesOn, RunsOut}
 use Rattle.seq_course.specs.Room.{most_of}
-use Rattle.seq_course.specs.Made.{Released, IsMachineAfter}
+use Rattle.seq_course.specs.Made.{Released, IsMachineAfter, up_to}
 
 -- What a course works on: the hardware, the chronicle, and the lines with the marks of those that are hung up.
 pub record Scene : Type 0 where
@@ -27,8 +28,9 @@ pub record Scene : Type 0 where
 abbrev pub scene : Hardware → ChronicleView → List LineView → List Bool → Scene
 scene hardware chronicle lines marks = record { hardware = hardware; chronicle = chronicle; lines = lines; marks = marks }
 
--- A course that began at a scene has come to another by these events.
+-- A course that began at a scene has come to another by these events, none of them a machine check.
 pub record LedTo (d : MachineDesc) (begun : Scene) (es : List Event) (now : Scene) : Type 0 where
+  pub unchecked : AreUnchecked d es (machine_at_start d)
   pub machine : IsMachineAfter d es now.hardware now.lines now.marks
   pub released : Released d es begun.chronicle.told now.chronicle.told begun.lines now.lines
   pub counts : CountsStay begun.chronicle now.chronicle
@@ -56,10 +58,11 @@ pub record Makes (more : List Event) (old new : Scene) : Type 0 where
   pub led : (d : MachineDesc) (begun : Scene) (es : List Event) → LedTo d begun es old → LedTo d begun (es ++ more) new
   pub keeps : Keeps (length more) old new
 
--- Behind these events an event ends the run, and nothing is changed by it: a count rose.
+-- Behind these events, none of them a machine check, an event ends the run, and what was released is that of the events up to it.
 pub record HaltsAt (d : MachineDesc) (begun : Scene) (es : List Event) (e : Event) (new : Scene) (stop : Stop) : Type 0 where
-  pub stops : StopsFor (note d (machine_after d es) e) begun.lines new.lines begun.chronicle new.chronicle stop
-  pub released : Released d es begun.chronicle.told new.chronicle.told begun.lines new.lines
+  pub unchecked : AreUnchecked d es (machine_at_start d)
+  pub ends : EndsFor d (machine_after d es) e begun.lines new.lines begun.chronicle new.chronicle stop
+  pub released : Released d (up_to es e stop) begun.chronicle.told new.chronicle.told begun.lines new.lines
 
 -- One of these events, which come next behind some, ends the run.
 pub record HaltsAmong (d : MachineDesc) (begun : Scene) (es more : List Event) (new : Scene) (stop : Stop) : Type 0 where

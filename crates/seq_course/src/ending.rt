@@ -7,6 +7,7 @@ pub enum Ending {
     Done,
     /// The `finish` on this line made all its rounds, and the machine isn't settled.
     OutOfTurns { line: u64 },
-    /// An event of the item on this line ended the run: nothing was changed by it.
+    /// An event of the item on this line ended the run: a machine check, of which the stop stands, or one that wasn't made, since a
+    /// line or the chronicle has a fault or was refused memory.
     Stopped { line: u64, stop: Stop },
 }

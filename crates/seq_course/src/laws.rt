@@ -1,8 +1,10 @@
 // Laws of courses. The functions do nothing: what they say is in their contracts.
-ghost use Rattle.seq_course.specs.Done.{CoursesAreRight, EndsAreRight, StopsAreRight, FaultlessFinishesAreDone};
+ghost use Rattle.seq_course.specs.Done.{CoursesAreRight, EndsAreRight, StopsAreRight, FaultlessFinishesAreDone, CoursesCheckUncovered};
 
-/// What the course of a faultless schedule releases is right, however it ends: the history is a flat run with what arrived in the
-/// events that were made, and the bytes sent on each line are a prefix of its output.
+use seq_covered::checks_are_uncovered;
+
+/// What the course of a faultless schedule releases is right, however it ends, also by a machine check: the history is a flat run
+/// with what arrived in the events that were made, and the bytes sent on each line are a prefix of its output.
 pub fn courses_are_right()
     ensures whole { CoursesAreRight }
     ensures ends { EndsAreRight }
@@ -14,3 +16,10 @@ pub fn courses_are_right()
 pub fn finishes_are_done()
     ensures { FaultlessFinishesAreDone }
 {}
+
+/// The course of a faultless schedule comes to a machine check only where its events, the check included, aren't covered.
+pub fn courses_check_uncovered()
+    ensures { CoursesCheckUncovered }
+{
+    checks_are_uncovered();
+}

@@ -5,7 +5,9 @@ mod course;
 mod ending;
 mod laws;
 mod making;
+mod troubles;
 
 pub use course::run;
 pub use ending::Ending;
-pub use laws::{courses_are_right, finishes_are_done};
+pub use laws::{courses_are_right, courses_check_uncovered, finishes_are_done};
+pub use troubles::troubles_are_allowed;

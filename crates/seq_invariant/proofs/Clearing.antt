@@ -1,5 +1,5 @@
 -- The turns of a recovery that clear lock words, and those that close it: all is copied, so the process isn't left.
-use Rattle.std.proofs.Common.{◌≡◌, ℕ, ◌/◌, ◌<◌, Bool, true, false, not, ◌==◌, if◌then◌else◌, Option, Some, None, suc, List, length, refl, ap, sym, ◌∙◌, subst, arith}
+use Rattle.std.proofs.Common.{◌≡◌, ℕ, ◌+◌, ◌/◌, ◌<◌, Bool, true, false, not, ◌==◌, if◌then◌else◌, Option, Some, None, suc, List, length, refl, ap, sym, ◌∙◌, subst, arith}
 use Rattle.std.proofs.lemmas.Bool.{cond_both, cond-true, and_parts, eqb-true, false≢true}
 use Rattle.seq_words.specs.Masks.{has_bit}
 use Rattle.seq_words.specs.Description.{IsDescription}
@@ -18,8 +18,9 @@ use Rattle.seq_turns.specs.Machines.Turn.{Moves}
 use Rattle.seq_io.specs.Changes.Change.{Unchanged, To_word}
 use Rattle.seq_turns.specs.Reading.{context_of, write_word}
 use Rattle.seq_turns.specs.Operations.{goes}
-use Rattle.seq_turns.specs.Recoveries.{into_stage, names, is_left, is_shadow, first_left, left_above, after_clearing, locks_cleared, locks_move, closing_move}
-use Rattle.seq_turns.proofs.Functions.{update_same, lowest_passes}
+use Rattle.seq_turns.specs.Recoveries.{into_stage, names, is_shadow, left_from, after_clearing, locks_cleared, locks_move, closing_move}
+use Rattle.seq_turns.proofs.Functions.{update_same}
+use Rattle.seq_turns.proofs.LeftFrom.{left_passes}
 use Rattle.seq_stands.specs.Grips.{grip}
 use Rattle.seq_stands.specs.Grips.Grip.{On}
 use Rattle.seq_stands.specs.Words.{words_of, view_of, ruling, AllUp, IsDeserted, GripHolds, WordsStand}
@@ -94,25 +95,25 @@ module _ (d : MachineDesc) (events : List Event) (at : Committed) (m : Machine) 
           both false h' a c = absurd (false≢true h')
 
 -- after a lock word was cleared
-clearing_process : (r : Recovery locks_stage.Locks) (o : Option ℕ) → process_of (after_clearing r o) ≡ r.pid.0
-clearing_process r (Some j) = refl
-clearing_process r None = refl
+clearing_process : (r : Recovery locks_stage.Locks) (k : ℕ) (o : Option ℕ) → process_of (after_clearing r k o) ≡ r.pid.0
+clearing_process r k (Some j) = refl
+clearing_process r k None = refl
 
-clearing_copied : (r : Recovery locks_stage.Locks) (o : Option ℕ) → IsCopied (after_clearing r o)
-clearing_copied r (Some j) = λ q forward h. h
-clearing_copied r None = λ q forward h. h
+clearing_copied : (r : Recovery locks_stage.Locks) (k : ℕ) (o : Option ℕ) → IsCopied (after_clearing r k o)
+clearing_copied r k (Some j) = λ q forward h. h
+clearing_copied r k None = λ q forward h. h
 
 module _ (d : MachineDesc) (events : List Event) (at : Committed) (m : Machine) (p : ℕ) (described : IsDescription d) (st : Holds d events at m) where
   -- a lock word is cleared
   pub locks_made : (r : Recovery locks_stage.Locks) → m.hand p ≡ hand.Recovering (recovery.Locks r) → WordsStand (words_of d (after_move p (locks_move d m p r) m)) → TurnMade d at m p (Moves (locks_move d m p r))
-  locks_made r e = go (first_left d m.copies r.pid.0) refl
+  locks_made r e = go (left_from d m.copies r.pid.0 r.cursor) refl
     where
       all' : AllUp (words_of d m)
       all' = all_recovered d m st.words.words p (recovery.Locks r) e
 
       -- the word that is cleared names the process
-      cleared : (k : ℕ) → first_left d m.copies r.pid.0 ≡ Some k → LeavesNames d m.copies r.pid.0 (To_word (segment_extent (shape_of d) (k / 2)) 0 (is_shadow k) 0)
-      cleared k found = which (is_shadow k) (and_parts (not (has_bit (context_of d m.copies r.pid.0).held (k / 2))) _ (lowest_passes (is_left d m.copies r.pid.0) _ k found).0).1
+      cleared : (k : ℕ) → left_from d m.copies r.pid.0 r.cursor ≡ Some k → LeavesNames d m.copies r.pid.0 (To_word (segment_extent (shape_of d) (k / 2)) 0 (is_shadow k) 0)
+      cleared k found = which (is_shadow k) (and_parts (not (has_bit (context_of d m.copies r.pid.0).held (k / 2))) _ (left_passes d m.copies r.pid.0 r.cursor k found).1).1
         where
           extent : ℕ
           extent = segment_extent (shape_of d) (k / 2)
@@ -123,14 +124,14 @@ module _ (d : MachineDesc) (events : List Event) (at : Committed) (m : Machine) 
               (λ up x ne says. let its : m.copies.word (segment_extent (shape_of d) (k / 2)) 0 false ≡ suc r.pid.0 = eqb-true _ _ (and_parts _ _ named).1 in ne (let c : x ≡ r.pid.0 = omega (arith, says, its) in c))
               (λ x ne says. let c : ⊥ = omega (arith, says) in c))
 
-      go : (o : Option ℕ) → first_left d m.copies r.pid.0 ≡ o → WordsStand (words_of d (after_move p (locks_cleared d m p r o) m)) → TurnMade d at m p (Moves (locks_cleared d m p r o))
+      go : (o : Option ℕ) → left_from d m.copies r.pid.0 r.cursor ≡ o → WordsStand (words_of d (after_move p (locks_cleared d m p r o) m)) → TurnMade d at m p (Moves (locks_cleared d m p r o))
       go None found st' = still_made d events at m p described st (recovery.Locks r) e (λ q forward h. h) (locks_cleared d m p r None) (recovery.Closing (into_stage r (record {}))) refl refl (λ q forward h. h) refl refl
           (only_names d m.copies r.pid.0 Unchanged (only_unchanged d r.pid.0)) (unchanged_quiet d) tt st'
-      go (Some k) found st' = still_made d events at m p described st (recovery.Locks r) e (λ q forward h. h) (locks_cleared d m p r (Some k)) (after_clearing r (left_above d m.copies r.pid.0 k)) refl
-          (clearing_process r (left_above d m.copies r.pid.0 k)) (clearing_copied r (left_above d m.copies r.pid.0 k)) refl refl (cleared k found) (record { blocks = λ f a n c. refl; within = λ area. tt })
-          (knows (left_above d m.copies r.pid.0 k)) st'
+      go (Some k) found st' = still_made d events at m p described st (recovery.Locks r) e (λ q forward h. h) (locks_cleared d m p r (Some k)) (after_clearing r k (left_from d m.copies r.pid.0 (k + 1))) refl
+          (clearing_process r k (left_from d m.copies r.pid.0 (k + 1))) (clearing_copied r k (left_from d m.copies r.pid.0 (k + 1))) refl refl (cleared k found) (record { blocks = λ f a n c. refl; within = λ area. tt })
+          (knows (left_from d m.copies r.pid.0 (k + 1))) st'
         where
-          knows : (o : Option ℕ) → RecoveryKnows d (copies_after (To_word (segment_extent (shape_of d) (k / 2)) 0 (is_shadow k) 0) m.copies) (after_clearing r o)
+          knows : (o : Option ℕ) → RecoveryKnows d (copies_after (To_word (segment_extent (shape_of d) (k / 2)) 0 (is_shadow k) 0) m.copies) (after_clearing r k o)
           knows (Some j) = tt
           knows None = tt
 

@@ -1,8 +1,6 @@
--- Every event that ends no run keeps all that stands, with the bounds and the order of clearing, and so does every list of events.
-use Rattle.std.proofs.Common.{◌≡◌, [], ◌∷◌, ◌++◌, sym, subst}
+-- Every event that ends no run keeps all that stands, with the bounds, and so does every list of events.
+use Rattle.std.proofs.Common.{[], ◌∷◌, ◌++◌, sym, subst}
 use Rattle.std.proofs.lemmas.List.{append-nil, append_assoc}
-use Rattle.seq_turns.specs.declared.hand.Hand.TheVariants as hand
-use Rattle.seq_turns.specs.declared.recovery.RecoveryAt.TheVariants as recovery
 use Rattle.seq_turns.specs.Events.{happens, run}
 use Rattle.seq_stands.proofs.Fitting.{events_keep_fit}
 use Rattle.seq_stands.proofs.FitImage.{machines_start_fit}
@@ -10,22 +8,19 @@ use Rattle.seq_invariant.specs.Gives.{at_first}
 use Rattle.seq_invariant.specs.Within.{HoldsWithin, StartHoldsWithin, EventsKeepWithin, RunsKeepWithin, RunsHoldWithin, RunsFit}
 use Rattle.seq_invariant.proofs.Law.{events_keep_all}
 use Rattle.seq_invariant.proofs.Start.{all_holds_at_start}
-use Rattle.seq_invariant.proofs.Clears.{events_keep_order}
 use Rattle.seq_invariant.proofs.InTime.{free_in_time, events_keep_in_time}
 
 pub start_holds_within : StartHoldsWithin
 start_holds_within d described = record {
   all = all_holds_at_start d described;
   fit = machines_start_fit d described;
-  clears = record { order = λ p k r inside e found. absurd (let same : hand.Seek ≡ hand.Recovering (recovery.Locks r) = e in let c : ⊥ = cc in c) };
   in_time = record { each = λ q c there. free_in_time d (at_first d) };
 }
 
 pub events_keep_within : EventsKeepWithin
 events_keep_within d events m e described ok check st = record {
   all = events_keep_all d events m e described ok check st.all;
-  fit = events_keep_fit d m e described ok check st.clears st.fit;
-  clears = events_keep_order d events m e described ok check st.all st.clears;
+  fit = events_keep_fit d m e described ok check st.fit;
   in_time = events_keep_in_time d m e described ok st.all.holds.words st.in_time;
 }
 

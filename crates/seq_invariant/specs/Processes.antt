@@ -22,7 +22,11 @@ use Rattle.seq_turns.specs.declared.hand.Hand.TheVariants as hand
 use Rattle.seq_turns.specs.declared.hand.FlushAt.{FlushAt}
 use Rattle.seq_turns.specs.declared.hand.FlushAt.TheVariants as flush
 use Rattle.seq_turns.specs.declared.hand.ReleaseAt.TheVariants as release
+use Rattle.seq_turns.specs.declared.recovery.Locks.{Locks}
+use Rattle.seq_turns.specs.declared.recovery.Recovery.{Recovery}
+use Rattle.seq_turns.specs.declared.recovery.RecoveryAt.TheVariants as recovery
 use Rattle.seq_turns.specs.Machines.{Machine}
+use Rattle.seq_turns.specs.Recoveries.{is_left}
 use Rattle.seq_turns.specs.Reading.{ruling, awaits, lock_word}
 use Rattle.seq_lines.specs.Arrivals.{arrived}
 use Rattle.seq_invariant.specs.Holds.{AllHolds}
@@ -161,9 +165,16 @@ pub record IsAheadIn (d : MachineDesc) (inputs : List LineInput) (f : FlatState)
 pub record RunningIsAhead (d : MachineDesc) (inputs : List LineInput) (f : FlatState) (m : Machine) : Type 0 where
   pub each : (p : ℕ) (r : Running) → running_in (m.hand p) ≡ Some r → IsAheadIn d inputs f m p r
 
+-- Amid the lock words of a recovery, none behind the cursor is left to be cleared.
+pub record NoneIsLeft (d : MachineDesc) (m : Machine) : Type 0 where
+  pub behind : (p k : ℕ) (r : Recovery Locks) → m.hand p ≡ hand.Recovering (recovery.Locks r) → k < r.cursor → k < 2 * length d.segments → is_left d m.copies r.pid.0 k ≡ false
+
 -- So it is at every moment.
 abbrev pub LocksNameAlways : Type 0
 LocksNameAlways = (d : MachineDesc) (events : List Event) (m : Machine) → IsDescription d → (all : AllHolds d events m) → LocksName d all.at.state m
+
+abbrev pub NoneIsLeftAlways : Type 0
+NoneIsLeftAlways = (d : MachineDesc) (events : List Event) (m : Machine) → IsDescription d → AllHolds d events m → NoneIsLeft d m
 
 abbrev pub RunningIsAheadAlways : Type 0
 RunningIsAheadAlways = (d : MachineDesc) (events : List Event) (m : Machine) → IsDescription d → (all : AllHolds d events m) → RunningIsAhead d (arrived d events) all.at.state m

@@ -8,7 +8,7 @@ use Rattle.seq_turns.specs.Allowed.{Allowed}
 use Rattle.seq_turns.specs.Events.{happens, is_check, run}
 use Rattle.seq_stands.specs.Plain.{IsInTime}
 use Rattle.seq_stands.specs.Standing.{Stands, AllAllowed}
-use Rattle.seq_stands.specs.Fit.{Fit, ClearsInOrder}
+use Rattle.seq_stands.specs.Fit.{Fit}
 use Rattle.seq_invariant.specs.Holds.{AllHolds}
 use Rattle.seq_invariant.specs.Gives.{at_first}
 
@@ -16,23 +16,15 @@ use Rattle.seq_invariant.specs.Gives.{at_first}
 pub record StatusWordsInTime (d : MachineDesc) (m : Machine) : Type 0 where
   pub each : (q : ℕ) (c : Bool) → q < length d.processes → IsInTime d m (m.copies.word q 0 c)
 
--- After these events all stands, each element is within its bounds, recoveries clear lock words in their order, and status words
--- are in time.
+-- After these events all stands, each element is within its bounds, and status words are in time.
 pub record HoldsWithin (d : MachineDesc) (events : List Event) (m : Machine) : Type 0 where
   pub all : AllHolds d events m
   pub fit : Fit d m
-  pub clears : ClearsInOrder d m
   pub in_time : StatusWordsInTime d m
 
 -- Every event that may be made keeps status words in time, also one that ends the run.
 abbrev pub EventsKeepInTime : Type 0
 EventsKeepInTime = (d : MachineDesc) (m : Machine) (e : Event) → IsDescription d → Allowed d m e → Stands d m → StatusWordsInTime d m → StatusWordsInTime d (happens d m e)
-
--- Where all stands, an event that may be made and doesn't end the run keeps the order in which recoveries clear lock words.
-abbrev pub EventsKeepOrder : Type 0
-EventsKeepOrder =
-    (d : MachineDesc) (events : List Event) (m : Machine) (e : Event) →
-    IsDescription d → Allowed d m e → is_check d m e ≡ false → AllHolds d events m → ClearsInOrder d m → ClearsInOrder d (happens d m e)
 
 -- At the start, with the blocks of the flat start.
 abbrev pub StartHoldsWithin : Type 0

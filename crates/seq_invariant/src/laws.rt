@@ -2,7 +2,7 @@
 ghost use Rattle.seq_invariant.specs.Gives.{CommittedIsFlatRun, SentIsRight, SentIsRightOn, RunsSendRight, SettledIsDone};
 ghost use Rattle.seq_invariant.specs.Holds.{StartHolds, EventsKeepAll, RunsKeepAll, RunsHold};
 ghost use Rattle.seq_invariant.specs.Orders.{StepsInAnyOrder};
-ghost use Rattle.seq_invariant.specs.Within.{EventsKeepInTime, EventsKeepOrder, StartHoldsWithin, EventsKeepWithin, RunsKeepWithin, RunsHoldWithin, RunsFit};
+ghost use Rattle.seq_invariant.specs.Within.{EventsKeepInTime, StartHoldsWithin, EventsKeepWithin, RunsKeepWithin, RunsHoldWithin, RunsFit};
 
 /// At the start all stands: words, locks, bounds, blocks and lines.
 pub fn all_holds_at_start()
@@ -42,12 +42,6 @@ pub fn settled_is_done()
 /// The uncommitted steps of any processes, taken in any order, lead on from the history, and to one state.
 pub fn steps_in_any_order()
     ensures { StepsInAnyOrder }
-{}
-
-/// Every event that may be made and doesn't end the run leaves the lock words that a recovery is still to clear after those that it
-/// has cleared, where all stands.
-pub fn recoveries_clear_in_order()
-    ensures { EventsKeepOrder }
 {}
 
 /// Every event that may be made leaves status words, on both copies, with the format and with no incarnation above the present one.

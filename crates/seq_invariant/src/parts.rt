@@ -4,7 +4,7 @@ ghost use Rattle.seq_invariant.specs.FlushAreas.{FlushAreasAgree};
 ghost use Rattle.seq_invariant.specs.LeftAreas.{LeftAreasHoldAlways};
 ghost use Rattle.seq_invariant.specs.Moments.{RunsShow};
 ghost use Rattle.seq_invariant.specs.Parts.{MemoriesServeAlways, StatusWordsNameAlways, StatusWordsHaveFormatAlways, LinesCountAlways};
-ghost use Rattle.seq_invariant.specs.Processes.{LocksNameAlways, RunningIsAheadAlways};
+ghost use Rattle.seq_invariant.specs.Processes.{LocksNameAlways, NoneIsLeftAlways, RunningIsAheadAlways};
 
 /// At most one memory isn't in service, and one that is being copied is equal to the other copy behind its next unit.
 pub fn memories_serve()
@@ -30,6 +30,11 @@ pub fn lines_count()
 /// A lock word is free where nobody owns or holds the segment; else it names whose the segment is.
 pub fn locks_name()
     ensures { LocksNameAlways }
+{}
+
+/// Amid a recovery no lock word behind the cursor is left to be cleared.
+pub fn none_is_left()
+    ensures { NoneIsLeftAlways }
 {}
 
 /// Who runs a process has it as it is after the steps that aren't committed.

@@ -34,7 +34,7 @@ use Rattle.seq_turns.specs.Machines.Turn.{Moves, Looks, Copies_unit, Stops}
 use Rattle.seq_turns.specs.Reading.{lock_word, context_of, copied_memory}
 use Rattle.seq_turns.specs.Causes.{after_releases, release_next, follows, agree, finds, released}
 use Rattle.seq_turns.specs.Operations.{taken_up, less, unit_count, flush_move, unlock_move, leave_move}
-use Rattle.seq_turns.specs.Recoveries.{recovery_move, first_left, locks_cleared}
+use Rattle.seq_turns.specs.Recoveries.{recovery_move, left_from, locks_cleared}
 use Rattle.seq_turns.specs.Processors.{turn, after_step, seeks, is_free, deserted, runs, someone_amid, copies_or_waits, seeks_or_copies, runs_or_copies}
 use Rattle.seq_turns.specs.Events.{comes_back, strikes}
 use Rattle.seq_lines.specs.Known.{HandIsWithin}
@@ -111,7 +111,7 @@ module _ (d : MachineDesc) (m : Machine) (p : ℕ) where
   recovery_inside : (at : RecoveryAt) → MoveIsInside d (recovery_move d m p at)
   recovery_inside (recovery.Claimed r) = cond_both (r.cursor == 0) _ _ (MoveIsInside d) (λ _. tt) (λ _. tt)
   recovery_inside (recovery.Copying r) = tt
-  recovery_inside (recovery.Locks r) = go (first_left d m.copies r.pid.0)
+  recovery_inside (recovery.Locks r) = go (left_from d m.copies r.pid.0 r.cursor)
     where
       go : (o : Option ℕ) → MoveIsInside d (locks_cleared d m p r o)
       go (Some k) = tt

@@ -48,7 +48,7 @@ use Rattle.seq_turns.specs.Machines.Turn.{Moves, Looks, Copies_unit, Stops}
 use Rattle.seq_turns.specs.Reading.{lock_word, context_of, copied_memory, is_copied, is_amid}
 use Rattle.seq_turns.specs.Causes.{finds, agree, released}
 use Rattle.seq_turns.specs.Operations.{taken_up, claims, acquires, less, unit_count, flush_move, unlock_move, leave_move}
-use Rattle.seq_turns.specs.Recoveries.{recovery_move, first_left, locks_cleared, unit_copied}
+use Rattle.seq_turns.specs.Recoveries.{recovery_move, left_from, locks_cleared, unit_copied}
 use Rattle.seq_turns.specs.Processors.{turn, after_step, seeks, is_free, deserted, someone_amid, copies_or_waits, seeks_or_copies, runs_or_copies}
 use Rattle.seq_turns.specs.Events.{after_turn}
 use Rattle.seq_turns.proofs.Functions.{update_cases, lowest_passes, lowest_none}
@@ -171,7 +171,7 @@ module _ (d : MachineDesc) (inputs : List LineInput) (f g : FlatState) (commits 
   recovery_room : (at : RecoveryAt) → MoveHasRoom (recovery_move d m p at)
   recovery_room (recovery.Claimed r) = cond_both (r.cursor == 0) _ _ MoveHasRoom (λ _. tt) (λ _. tt)
   recovery_room (recovery.Copying r) = tt
-  recovery_room (recovery.Locks r) = go (first_left d m.copies r.pid.0)
+  recovery_room (recovery.Locks r) = go (left_from d m.copies r.pid.0 r.cursor)
     where
       go : (o : Option ℕ) → MoveHasRoom (locks_cleared d m p r o)
       go (Some k) = tt

@@ -33,15 +33,16 @@ use Rattle.seq_turns.specs.Reading.{status_word, lock_word, holder, write_word, 
 use Rattle.seq_turns.specs.Recoveries.{begins, recovers, recovery_move}
 use Rattle.seq_turns.specs.Causes.{agree, follows, flushes, finds, released}
 use Rattle.seq_turns.specs.Operations.{goes, sets, unit_count, taken_up, flush_move}
-use Rattle.seq_turns.specs.Processors.{is_free, next_process, deserted, looks, seeks, after_step, runs, turn}
+use Rattle.seq_turns.specs.Processors.{is_free, next_process, deserted, looks, seeks, after_step, runs, someone_amid, copies_or_waits, turn}
 use Rattle.seq_turns.specs.Events.{note_of_turn}
 use Rattle.seq_machine.specs.Here.{here, among, commit_of}
 use Rattle.seq_machine.specs.Needs.{IsOperating}
 use Rattle.seq_machine.specs.Plain.{Outside, processor_of, machine_of}
-use Rattle.seq_machine.specs.Processors.{local_turn}
+use Rattle.seq_machine.specs.Processors.{local_turn, copied_by}
 use Rattle.seq_machine.specs.declared.hardware.Hardware.{Hardware}
 use Rattle.seq_machine.specs.Happening.{sent_in, entries_in, entries_of}
 use Rattle.seq_machine.proofs.Tied.{turn_is}
+use Rattle.seq_machine.proofs.Returning.{turn_copies}
 use Rattle.seq_machine.proofs.Recovering.{Recovers, claimed_recovers, move_recovers}
 
 -- A turn's note says what it commits, and that nothing is sent.
@@ -153,6 +154,19 @@ module _ (d : MachineDesc) (p : Copies) (cache : Changes) (i : ℕ → ℕ) (sca
     pub entries_told : (h : Hand) → (IsOperating h → result ≡ commit_of (turn d m pe h)) → ((IsOperating h → ⊥) → result ≡ None) → entries_of result ≡ entries_in (note_of_turn pe (local_turn d p cache i scan pe h))
     entries_told h some none = ap entries_of (committed_is h some none) ∙ sym (local_tells h).told
 
--- so does the turn of the hardware's processor where no memory is to be copied
-pub turn_tells : (h : Hardware) (p : ℕ) → copied_memory h.desc (copies h.layout h.memories) ≡ None → (o : Outside) → TellsCommit p (turn h.desc (machine_of h o) p ((machine_of h o).hand p))
-turn_tells h p uncopied o = subst (TellsCommit p) (sym (turn_is h.desc (machine_of h o) p uncopied)) (local_tells h.desc (copies h.layout h.memories) (processor_of h p).cache (slice_index h.incarnations) (slice_index h.scan p) p (processor_of h p).hand)
+-- so does a turn that copies a memory
+copying_tells : (m : Machine) (p i : ℕ) (found : Option ℕ) → TellsCommit p (copies_or_waits m p i found)
+copying_tells m p i (Some r) = record { told = refl; unsent = λ l. refl }
+copying_tells m p i None = record { told = refl; unsent = λ l. refl }
+
+pub copying_quiet : (m : Machine) (p i : ℕ) (found : Option ℕ) → entries_in (note_of_turn p (copies_or_waits m p i found)) ≡ []
+copying_quiet m p i (Some r) = refl
+copying_quiet m p i None = refl
+
+-- and so does every turn of the hardware's processor
+pub turn_tells : (h : Hardware) (p : ℕ) (o : Outside) → TellsCommit p (turn h.desc (machine_of h o) p ((machine_of h o).hand p))
+turn_tells h p o = by_copied (copied_by (copied_memory h.desc (copies h.layout h.memories)) (processor_of h p).hand) refl
+  where
+    by_copied : (x : Option ℕ) → copied_by (copied_memory h.desc (copies h.layout h.memories)) (processor_of h p).hand ≡ x → TellsCommit p (turn h.desc (machine_of h o) p ((machine_of h o).hand p))
+    by_copied (Some i) is = subst (TellsCommit p) (sym (turn_copies h.desc (machine_of h o) p i (processor_of h p).hand is)) (copying_tells (machine_of h o) p i (someone_amid h.desc (machine_of h o)))
+    by_copied None is = subst (TellsCommit p) (sym (turn_is h.desc (machine_of h o) p is)) (local_tells h.desc (copies h.layout h.memories) (processor_of h p).cache (slice_index h.incarnations) (slice_index h.scan p) p (processor_of h p).hand)

@@ -1,5 +1,5 @@
--- The failure of a processor, and its repair.
-use Rattle.std.proofs.Common.{◌≡◌, ℕ, suc, ◌+◌, ◌<◌, true, false, List, [], length, Some, refl, sym, ap, ◌∙◌, add-one}
+-- The failure of a processor or a memory, and its repair.
+use Rattle.std.proofs.Common.{◌≡◌, ℕ, suc, ◌+◌, ◌<◌, true, false, List, [], length, Some, None, Ok, if◌then◌else◌, refl, sym, ap, ◌∙◌, add-one}
 use Rattle.std.specs.Prelude.{slice_index, slice_index_or, slice_set, slice_get}
 use Rattle.std.proofs.lemmas.Bool.{cond_both, cond-true, cond-false}
 use Rattle.std.proofs.lemmas.Option.{get_or_from_slice_get}
@@ -8,14 +8,20 @@ use Rattle.seq_words.specs.declared.description.MachineDesc.{MachineDesc}
 use Rattle.seq_words.specs.declared.kinds.Element.{Element}
 use Rattle.seq_words.specs.declared.kinds.Element.TheVariants as element
 use Rattle.seq_words.specs.declared.events.Event.TheVariants as event
+use Rattle.seq_memory.specs.declared.element.State.{State}
+use Rattle.seq_memory.specs.declared.element.State.TheVariants as memory_state
+use Rattle.seq_memory.specs.declared.element.Memories.{Memories}
+use Rattle.seq_layout.specs.Shapes.{Shape, shape_of}
+use Rattle.seq_layout.specs.Copies.{Copies, copies, failed, with_state}
 use Rattle.seq_kernel.specs.declared.outcomes.Note.{Note}
 use Rattle.seq_kernel.specs.declared.outcomes.Note.TheVariants.{Stopped, Made}
 use Rattle.seq_turns.specs.declared.hand.Hand.TheVariants as hand
 use Rattle.seq_turns.specs.Functions.{update}
 use Rattle.seq_turns.specs.Machines.{Machine}
-use Rattle.seq_turns.specs.Events.{is_down, comes_back, stopped, happens, note}
+use Rattle.seq_turns.specs.Events.{is_down, comes_back, is_back, stopped, lost_copies, happens, note, blocker}
 use Rattle.seq_turns.proofs.Functions.{update_is}
-use Rattle.seq_machine.specs.Plain.{Outside, processor_of, idle_processor, machine_of, outside_of}
+use Rattle.seq_machine.specs.Plain.{Outside, processor_of, idle_processor, machine_of, outside_of, IsHardware}
+use Rattle.seq_machine.specs.Checking.{answered, answer_to, answer}
 use Rattle.seq_machine.specs.Happening.{sent_in, entries_in}
 use Rattle.seq_machine.specs.declared.hardware.Processor.{Processor}
 use Rattle.seq_machine.specs.declared.hardware.Hardware.{Hardware}
@@ -79,11 +85,17 @@ module _ (h : Hardware) (o : Outside) (p : ℕ) (few : p < length h.processors) 
   pub stays_down : (d : MachineDesc) → is_down z.hand ≡ true → happens d m (event.Fail (element.Processor (record { 0 = p }))) ≡ m
   stays_down d e = cond-true (is_down (m.hand p)) m (stopped m p) (same_hand ∙ e)
 
-  pub made_note : (d : MachineDesc) → is_down z.hand ≡ true → note d m (event.Fail (element.Processor (record { 0 = p }))) ≡ Made
-  made_note d e = cond-true (is_down (m.hand p)) Made (Stopped (element.Processor (record { 0 = p }))) (same_hand ∙ e)
+  -- and that is all that is answered
+  pub made_answer : (d : MachineDesc) → is_down z.hand ≡ true → Ok Made ≡ answer d m (event.Fail (element.Processor (record { 0 = p })))
+  made_answer d e =
+      let down : is_down (m.hand p) ≡ true = same_hand ∙ e in
+      λ j. answer_to (if sym down j then Made else Stopped (element.Processor (record { 0 = p }))) d m (if sym down j then None else Some (element.Processor (record { 0 = p })))
 
-  pub stopped_note : (d : MachineDesc) → is_down z.hand ≡ false → note d m (event.Fail (element.Processor (record { 0 = p }))) ≡ Stopped (element.Processor (record { 0 = p }))
-  stopped_note d e = cond-false (is_down (m.hand p)) Made (Stopped (element.Processor (record { 0 = p }))) (same_hand ∙ e)
+  pub stopped_answer : (d : MachineDesc) → is_down z.hand ≡ false
+      → answered (Stopped (element.Processor (record { 0 = p }))) (element.Processor (record { 0 = p })) (blocker d m (Some (element.Processor (record { 0 = p })))) ≡ answer d m (event.Fail (element.Processor (record { 0 = p })))
+  stopped_answer d e =
+      let up : is_down (m.hand p) ≡ false = same_hand ∙ e in
+      λ j. answer_to (if sym up j then Made else Stopped (element.Processor (record { 0 = p }))) d m (if sym up j then None else Some (element.Processor (record { 0 = p })))
 
   -- one that is up stops
   module _ (numbers : p < length h.incarnations) (count : ℕ) (count_is : slice_get h.incarnations p ≡ Some count) where
@@ -110,3 +122,28 @@ module _ (h : Hardware) (o : Outside) (p : ℕ) (few : p < length h.processors) 
     hand = (hands y ∙ ap (update m.hand p) (seeks ∙ ap comes_back (sym down))) j;
     cache = same_caches y same j;
   }
+
+-- ---- memories
+lost_is : (d : MachineDesc) (p : Copies) (i : ℕ) → failed (shape_of d) p i ≡ lost_copies d i p
+unfolding failed update
+lost_is d p i = refl
+
+stale_is : (p : Copies) (i : ℕ) → with_state p i memory_state.Stale ≡ record p { state = update p.state i memory_state.Stale }
+unfolding with_state update
+stale_is p i = refl
+
+module _ (h : Hardware) (hardware : IsHardware h) (o : Outside) (i : ℕ) (memories : Memories) where
+  abbrev now : Copies
+  now = copies h.layout h.memories
+
+  -- one that fails loses what it keeps
+  pub memory_failed : copies h.layout memories ≡ failed h.layout now i → machine_of (record h { memories = memories }) o ≡ happens h.desc (machine_of h o) (event.Fail (element.Memory (record { 0 = i })))
+  memory_failed fails =
+      let lost = fails ∙ ap (λ (s : Shape). failed s now i) hardware.layout ∙ lost_is h.desc now i in
+      λ j. record (machine_of h o) { copies = lost j }
+
+  -- one that is repaired is to be copied
+  pub memory_mended : now.state i ≡ memory_state.Down → copies h.layout memories ≡ with_state now i memory_state.Stale → machine_of (record h { memories = memories }) o ≡ happens h.desc (machine_of h o) (event.Repair (element.Memory (record { 0 = i })))
+  memory_mended down mends =
+      let back = mends ∙ stale_is now i ∙ ap (λ (s : State). record now { state = update now.state i s }) (ap is_back (sym down)) in
+      λ j. record (machine_of h o) { copies = back j }

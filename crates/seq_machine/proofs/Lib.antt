@@ -5,8 +5,10 @@ pub mod Acquiring
 pub mod RunLeft
 pub mod Tied
 pub mod Given
-pub mod Building
+pub mod Returning
+pub mod Answering
 pub mod Failing
+pub mod Striking
 pub mod Turnable
 pub mod Unchanged
 pub mod EventParts
@@ -26,4 +28,3 @@ pub mod Readiness
 pub mod Making
 pub mod Settleable
 pub mod Staged
-pub mod Clearing

@@ -1,8 +1,8 @@
 -- Lists that are changed at one place, read as functions.
 use Rattle.std.proofs.Math.Path.{fun_ext}
-use Rattle.std.proofs.Common.{◌≡◌, inl, inr, ℕ, ◌+◌, ◌<◌, List, [], ◌∷◌, ◌++◌, length, get_or, set, replicate, Some, arith, ap, sym, ◌∙◌, subst, get_or-set_same, get_or-set_other}
-use Rattle.std.specs.Prelude.{slice_get}
-use Rattle.std.proofs.lemmas.Bool.{cases_lt}
+use Rattle.std.proofs.Common.{◌≡◌, inl, inr, ℕ, ◌+◌, ◌<◌, Bool, false, List, [], ◌∷◌, ◌++◌, length, get_or, set, replicate, Some, arith, ap, sym, ◌∙◌, subst, get_or-set_same, get_or-set_other}
+use Rattle.std.specs.Prelude.{slice_get, slice_index_or, slice_set}
+use Rattle.std.proofs.lemmas.Bool.{cases_lt, cases_eq}
 use Rattle.std.proofs.lemmas.List.{replicate-append-replicate, get_or-replicate, get_or_past, length-replicate}
 use Rattle.std.proofs.lemmas.Option.{get_or_from_slice_get}
 use Rattle.seq_turns.specs.Functions.{update}
@@ -25,3 +25,10 @@ one_more n x = replicate-append-replicate n 1 x
 -- whatever place is read of copies of the default
 pub copies_of_one : {A : Type 0} (n k : ℕ) (x : A) → get_or (replicate n x) k x ≡ x
 copies_of_one n k x = elim (cases_lt k n) [ inl lt ↦ get_or-replicate n k x x lt | inr past ↦ get_or_past (replicate n x) k x (omega (arith, past, length-replicate n x)) ]
+
+-- marks below a place, and the one that is set there
+pub marked_on : (marks : List Bool) (at : ℕ) (v : Bool) (f : ℕ → Bool) → at < length marks → ((p : ℕ) → p < at → slice_index_or marks p false ≡ f p) → v ≡ f at → (p : ℕ) → p < at + 1 → slice_index_or (slice_set marks at v) p false ≡ f p
+marked_on marks at v f inside below here p under = elim (cases_eq p at) [
+  | inl same ↦ rw same (get_or-set_same marks at v false inside ∙ here)
+  | inr other ↦ get_or-set_other marks at p v false other ∙ below p (omega (arith, under, other))
+]

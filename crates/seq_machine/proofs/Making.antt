@@ -1,19 +1,18 @@
 -- A list of events by its first event and the rest.
-use Rattle.std.proofs.Common.{◌≡◌, ℕ, ◌+◌, ◌<◌, ◌≤◌, Bool, List, ◌∷◌, length, get_or, drop, refl, sym, ◌∙◌, ap, subst}
+use Rattle.std.proofs.Common.{◌≡◌, ℕ, ◌+◌, ◌<◌, ◌≤◌, Bool, List, ◌∷◌, length, get_or, drop, None, refl, sym, ◌∙◌, ap, subst}
 use Rattle.std.proofs.lemmas.List.{drop_more, drop_all}
 use Rattle.seq_words.specs.declared.description.MachineDesc.{MachineDesc}
 use Rattle.seq_words.specs.declared.events.Event.{Event}
 use Rattle.seq_shelf.specs.Told.{LineView}
 use Rattle.seq_turns.specs.Machines.{Machine}
 use Rattle.seq_turns.specs.Allowed.{Allowed}
-use Rattle.seq_turns.specs.Events.{happens, run}
-use Rattle.seq_stands.specs.Fit.{ClearsInOrder}
+use Rattle.seq_turns.specs.Events.{happens, check, run}
 use Rattle.seq_machine.specs.declared.hardware.Hardware.{Hardware}
 use Rattle.seq_machine.specs.Plain.{Outside, machine_of, outside_of, IsOutside}
 use Rattle.seq_machine.specs.Starting.{no_outside}
 use Rattle.seq_machine.specs.Built.{IsBuilt}
 use Rattle.seq_machine.specs.Making.{MayMake, MayMakeAll}
-use Rattle.seq_machine.proofs.Unchanged.{allowed_anywhere, clears_anywhere}
+use Rattle.seq_machine.proofs.Unchanged.{allowed_anywhere}
 
 -- these events of the hardware now, with an outside that the lines show, lead where those led with the outside before
 pub record LeadsTo (d : MachineDesc) (left all : List Event) (old now : Hardware) (lines : List LineView) (marks : List Bool) (o : Outside) : Type 0 where
@@ -27,6 +26,9 @@ leads_here d all h lines marks o shown = record { outside = o; shown = shown; sa
 -- the event that hardware makes, as Hardware::event tells it
 abbrev pub Makes : (old new : Hardware) (e : Event) (lines : List LineView) (marks : List Bool) → Type 0
 Makes old new e lines marks = (o : Outside) → IsOutside lines marks o → machine_of new (outside_of (happens old.desc (machine_of old o) e)) ≡ happens old.desc (machine_of old o) e
+
+abbrev pub IsUnchecked : (old : Hardware) (e : Event) (lines : List LineView) (marks : List Bool) → Type 0
+IsUnchecked old e lines marks = (o : Outside) → IsOutside lines marks o → check old.desc (machine_of old o) e ≡ None
 
 abbrev pub Shows : (old : Hardware) (e : Event) (lines : List LineView) (marks : List Bool) (new_lines : List LineView) (new_marks : List Bool) → Type 0
 Shows old e lines marks new_lines new_marks = (o : Outside) → IsOutside lines marks o → IsOutside new_lines new_marks (outside_of (happens old.desc (machine_of old o) e))
@@ -46,17 +48,14 @@ module _ (es : List Event) (i : ℕ) (e : Event) (inside : i < length es) where
     pub next_allowed : Allowed old.desc (machine_of old no_outside) (get_or es i e)
     next_allowed = allowed_anywhere old.desc old o no_outside (get_or es i e) both.0 both.1
 
-    pub next_clears : ClearsInOrder old.desc (machine_of old no_outside)
-    next_clears = clears_anywhere old.desc old o no_outside both.2
-
-    pub next_left : MayMake old.desc (drop (i + 1) es) (happens old.desc (machine_of old o) (get_or es i e))
-    next_left = both.3
+    pub next_left : check old.desc (machine_of old o) (get_or es i e) ≡ None → MayMake old.desc (drop (i + 1) es) (happens old.desc (machine_of old o) (get_or es i e))
+    next_left = both.2
 
   module _ (old new : Hardware) (lines new_lines : List LineView) (marks new_marks : List Bool) where
-    pub next_may : new.desc ≡ old.desc → Makes old new (get_or es i e) lines marks → Shows old (get_or es i e) lines marks new_lines new_marks → MayMakeAll (drop i es) old lines marks → MayMakeAll (drop (i + 1) es) new new_lines new_marks
-    next_may desc makes shows may =
+    pub next_may : new.desc ≡ old.desc → IsUnchecked old (get_or es i e) lines marks → Makes old new (get_or es i e) lines marks → Shows old (get_or es i e) lines marks new_lines new_marks → MayMakeAll (drop i es) old lines marks → MayMakeAll (drop (i + 1) es) new new_lines new_marks
+    next_may desc unchecked makes shows may =
         let o = outside_of (happens old.desc (machine_of old may.outside) (get_or es i e)) in
-        let rest : MayMake old.desc (drop (i + 1) es) (machine_of new o) = subst (λ (m : Machine). MayMake old.desc (drop (i + 1) es) m) (sym (makes may.outside may.shown)) (next_left old may.outside may.allowed) in
+        let rest : MayMake old.desc (drop (i + 1) es) (machine_of new o) = subst (λ (m : Machine). MayMake old.desc (drop (i + 1) es) m) (sym (makes may.outside may.shown)) (next_left old may.outside may.allowed (unchecked may.outside may.shown)) in
         record { outside = o; shown = shows may.outside may.shown; allowed = subst (λ (d : MachineDesc). MayMake d (drop (i + 1) es) (machine_of new o)) (sym desc) rest }
 
     pub next_leads : (start : Hardware) (o : Outside) → old.desc ≡ start.desc → Makes old new (get_or es i e) lines marks → Shows old (get_or es i e) lines marks new_lines new_marks

@@ -13,14 +13,11 @@ use Rattle.seq_turns.specs.Allowed.{Allowed}
 use Rattle.seq_turns.specs.Events.{happens}
 use Rattle.seq_stands.specs.Fit.{Fit}
 use Rattle.seq_stands.specs.FitNumbers.{FlushBelow, HandBelow, NumbersBelow, NumbersFit}
-use Rattle.seq_stands.proofs.Fitting.{starts_serving}
 use Rattle.seq_stands.proofs.FitImage.{machines_start_fit, machines_start_at_zero}
 use Rattle.seq_stands.proofs.FitNumbers.{numbers_grow}
-use Rattle.seq_start.specs.Begun.{start_image}
 use Rattle.seq_machine.specs.Plain.{Outside, machine_of, outside_of, IsOutside, IsHardware}
 use Rattle.seq_machine.specs.Starting.{no_outside, machine_at_start}
-use Rattle.seq_machine.specs.Settling.{held_copies}
-use Rattle.seq_machine.specs.Built.{IsBuilt, MemoriesServe}
+use Rattle.seq_machine.specs.Built.{IsBuilt}
 use Rattle.seq_machine.specs.Ready.{IsReady}
 use Rattle.seq_machine.specs.declared.hardware.Hardware.{Hardware}
 use Rattle.seq_machine.proofs.Unchanged.{shown_by, is_shown, fit_anywhere, allowed_anywhere}
@@ -63,15 +60,14 @@ pub starts_ready : (h : Hardware) (d : MachineDesc) → IsDescription d → IsHa
 starts_ready h d described hardware desc starts = record {
   hardware = hardware;
   fit = subst (λ (e : MachineDesc). Fit e (machine_of h no_outside)) (sym desc) (subst (λ (m : Machine). Fit d m) (sym starts) (machines_start_fit d described));
-  serving = subst (λ (e : MachineDesc). MemoriesServe e (held_copies h)) (sym desc) (subst (λ (m : Machine). MemoriesServe d m.copies) (sym starts) (record { serving = λ i l. starts_serving d (start_image d) i l }));
   numbers = subst (λ (e : MachineDesc). NumbersBelow 1 e (machine_of h no_outside)) (sym desc) (subst (λ (m : Machine). NumbersBelow 1 d m) (sym starts) (machines_start_at_zero d described));
 }
 
 -- ---- events
 pub goes_on : (n : ℕ) (old new : Hardware) (e : Event) (lines : List LineView) (marks : List Bool)
-    → IsReady n old → IsBuilt e → Allowed old.desc (machine_of old no_outside) e → IsHardware new → new.desc ≡ old.desc → Fit new.desc (machine_of new no_outside) → MemoriesServe new.desc (held_copies new)
+    → IsReady n old → IsBuilt e → Allowed old.desc (machine_of old no_outside) e → IsHardware new → new.desc ≡ old.desc → Fit new.desc (machine_of new no_outside)
     → ((o : Outside) → IsOutside lines marks o → machine_of new (outside_of (happens old.desc (machine_of old o) e)) ≡ happens old.desc (machine_of old o) e) → IsReady (suc n) new
-goes_on n old new e lines marks ready built allowed hardware desc fit serving made =
+goes_on n old new e lines marks ready built allowed hardware desc fit made =
     let o = shown_by lines marks in
     let at = outside_of (happens old.desc (machine_of old o) e) in
     let grown : NumbersBelow (suc n) old.desc (happens old.desc (machine_of old o) e) =
@@ -81,6 +77,5 @@ goes_on n old new e lines marks ready built allowed hardware desc fit serving ma
     record {
       hardware = hardware;
       fit = fit;
-      serving = serving;
       numbers = subst (λ (d : MachineDesc). NumbersBelow (suc n) d (machine_of new no_outside)) (sym desc) (numbers_anywhere (suc n) old.desc new at no_outside seen);
     }

@@ -12,7 +12,7 @@ use Rattle.seq_turns.specs.declared.recovery.RecoveryAt.TheVariants as at
 use Rattle.seq_turns.specs.Machines.{Machine, Move}
 use Rattle.seq_turns.specs.Reading.{ruling, goes_forward}
 use Rattle.seq_turns.specs.Processors.{is_free, looks, seeks}
-use Rattle.seq_turns.specs.Recoveries.{first_left, begins, claimed_move, locks_cleared, closing_move, recovery_move}
+use Rattle.seq_turns.specs.Recoveries.{left_from, begins, claimed_move, locks_cleared, closing_move, recovery_move}
 use Rattle.seq_machine.specs.Here.{here, turned, cache_after}
 use Rattle.seq_machine.specs.Processors.{cache_left}
 
@@ -42,7 +42,7 @@ module _ (d : MachineDesc) (m : Machine) (p : ℕ) where
   pub move_recovers : (r : RecoveryAt) → Recovers m p (recovery_move d m p r)
   move_recovers (at.Claimed r) = claimed_recovers r
   move_recovers (at.Copying r) = record { note = refl; cache = refl; commit = refl }
-  move_recovers (at.Locks r) = cleared_recovers r (first_left d m.copies r.pid.0)
+  move_recovers (at.Locks r) = cleared_recovers r (left_from d m.copies r.pid.0 r.cursor)
   move_recovers (at.Closing r) = closing_recovers r
 
   -- a processor that seeks keeps its cache
@@ -57,7 +57,7 @@ module _ (d : MachineDesc) (m : Machine) (p : ℕ) where
   pub recovery_is_local : (i : ℕ) (r : RecoveryAt) → recovery_move d m p r ≡ recovery_move d (here m.copies (m.cache p) i) p r
   recovery_is_local i (at.Claimed r) = refl
   recovery_is_local i (at.Copying r) = refl
-  recovery_is_local i (at.Locks r) = cleared_is_local (first_left d m.copies r.pid.0)
+  recovery_is_local i (at.Locks r) = cleared_is_local (left_from d m.copies r.pid.0 r.cursor)
     where
       cleared_is_local : (found : Option ℕ) → locks_cleared d m p r found ≡ locks_cleared d (here m.copies (m.cache p) i) p r found
       cleared_is_local (Some k) = refl

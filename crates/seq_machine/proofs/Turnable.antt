@@ -1,11 +1,16 @@
--- A processor may take its turn where the machine fits and every memory is in service.
-use Rattle.std.proofs.Common.{◌≡◌, ℕ, ◌^◌, ◌<◌, Bool, true, false, not, Option, Some, None, inl, inr, refl, ap, sym, ◌∙◌, subst, arith}
+-- A processor may take its turn where the machine fits.
+use Rattle.std.proofs.Common.{◌≡◌, ℕ, ◌^◌, ◌<◌, Bool, true, false, not, length, Option, Some, None, inl, inr, refl, ap, sym, ◌∙◌, subst, arith}
 use Rattle.std.specs.Prelude.{IsSome, unwrap_or}
 use Rattle.std.proofs.lemmas.Bool.{cond-true, cond-false, and_parts, eq-eqb, cases_Bool, false≢true}
 use Rattle.seq_words.specs.Description.{IsDescription}
 use Rattle.seq_words.specs.declared.description.MachineDesc.{MachineDesc}
-use Rattle.seq_layout.specs.Shapes.{shape_of}
-use Rattle.seq_layout.specs.Copies.{Copies, serves}
+use Rattle.seq_memory.specs.States.{is_in_service, is_returning}
+use Rattle.seq_memory.specs.declared.element.State.{State}
+use Rattle.seq_memory.specs.declared.element.State.TheVariants.{InService, Down, Stale, Copying}
+use Rattle.seq_layout.specs.Shapes.{Shape, shape_of}
+use Rattle.seq_layout.specs.Units.{units_of}
+use Rattle.seq_layout.specs.Copies.{Copies, serves, copies}
+use Rattle.seq_ruling.proofs.Lowest.{is_lowest}
 use Rattle.seq_status.specs.declared.status.Holder.{Holder}
 use Rattle.seq_status.specs.declared.status.Status.{Status}
 use Rattle.seq_status.specs.declared.status.Status.TheVariants.{Idle, Run, Pass1, Pass2, Back, Forward}
@@ -17,23 +22,22 @@ use Rattle.seq_turns.specs.declared.recovery.RecoveryAt.TheVariants as recovery
 use Rattle.seq_turns.specs.declared.hand.Hand.{Hand}
 use Rattle.seq_turns.specs.declared.hand.Hand.TheVariants as hand
 use Rattle.seq_turns.specs.Machines.{Machine}
-use Rattle.seq_turns.specs.Reading.{status_word, status_in, is_idle, ruling}
+use Rattle.seq_turns.specs.Reading.{status_word, status_in, is_idle, ruling, is_copied, copied_memory}
 use Rattle.seq_stands.specs.FitHands.{HandFits}
 use Rattle.seq_stands.specs.Hands.{IsHand, IsRecoveryAt}
-use Rattle.seq_stands.specs.Fit.{RecoveryAtFits, HandHolds, Fit}
+use Rattle.seq_stands.specs.Fit.{StateFits, StatesFit, RecoveryAtFits, HandHolds, Fit}
 use Rattle.seq_stands.specs.FitNumbers.{HandBelow, NumbersFit}
 use Rattle.seq_stands.proofs.FitGives.{fit_gives}
 use Rattle.seq_recover.specs.Needs.{RecoveryNeeds}
+use Rattle.seq_reintegrate.specs.Needs.{CopyingNeeds}
 use Rattle.seq_machine.specs.Needs.{NeedsOf}
 use Rattle.seq_machine.specs.Plain.{machine_of, IsHardware}
 use Rattle.seq_machine.specs.Starting.{no_outside}
-use Rattle.seq_machine.specs.Settling.{held_copies}
-use Rattle.seq_machine.specs.Built.{MemoriesServe}
 use Rattle.seq_machine.specs.Processors.{RunNeeds, SeekNeeds, TurnNeeds, MayTurn}
 use Rattle.seq_machine.specs.declared.hardware.Hardware.{Hardware}
 use Rattle.seq_status.proofs.WordLaws.{words_are_written_back, words_of_the_format_are_read}
 use Rattle.seq_machine.proofs.Given.{needs_given}
-use Rattle.seq_machine.proofs.Building.{uncopied}
+use Rattle.seq_machine.proofs.EventParts.{may_be_checked}
 
 -- a status word of the format that says Idle is 0
 idle_is_zero : (w : ℕ) → IsStatusWord w → is_idle (status_in w) ≡ true → w ≡ 0
@@ -105,12 +109,37 @@ module _ (d : MachineDesc) (m : Machine) (described : IsDescription d) (fits : F
       let now = fits.processors p there in
       turn_needs (m.hand p) now.own now.holds now.bounds (numbers.hands p there) (needs_given d m described fits numbers p there)
 
-pub may_turn : (h : Hardware) (p : ℕ) → IsHardware h → Fit h.desc (machine_of h no_outside) → NumbersFit h.desc (machine_of h no_outside) → MemoriesServe h.desc (held_copies h) → p < h.desc.processors → MayTurn h p
-may_turn h p hardware fits numbers serving there =
+-- a memory that is to be copied may be, since at most one isn't in service
+copied_returns : (s : State) → is_copied s ≡ true → (is_returning s ≡ true) × (is_in_service s ≡ false)
+copied_returns InService copied = absurd (false≢true copied)
+copied_returns Down copied = absurd (false≢true copied)
+copied_returns Stale copied = (refl, refl)
+copied_returns (Copying next) copied = (refl, refl)
+
+next_is : (d : MachineDesc) (i : ℕ) (s : State) → StateFits d i s → (n : ℕ) → s ≡ Copying n → n < length (units_of (shape_of d) i)
+next_is d i s fits n is = subst (StateFits d i) is fits
+
+copying_needs : (d : MachineDesc) (p : Copies) (i : ℕ) → StatesFit d p → copied_memory d p ≡ Some i → CopyingNeeds (shape_of d) p i
+copying_needs d p i fits found =
+    let lowest = is_lowest (λ j. is_copied (p.state j)) d.memories i found in
+    let back = copied_returns (p.state i) lowest.passes in
+    record {
+      memory = lowest.within;
+      returning = back.0;
+      next = next_is d i (p.state i) (fits.next i lowest.within);
+      others = λ j l other. elim (cases_Bool (is_in_service (p.state j))) [
+        | inl serves ↦ serves
+        | inr away ↦ absurd (other (fits.one_out j i l lowest.within away back.1))
+      ];
+    }
+
+pub may_turn : (h : Hardware) (p : ℕ) → IsHardware h → Fit h.desc (machine_of h no_outside) → NumbersFit h.desc (machine_of h no_outside) → p < h.desc.processors → MayTurn h p
+may_turn h p hardware fits numbers there =
     let m = machine_of h no_outside in
     record {
       processor = there;
       incarnation = let few = numbers.incarnations p there in omega (arith, few);
-      uncopied = uncopied h.desc m serving;
+      copying = λ i found. subst (λ (s : Shape). CopyingNeeds s (copies h.layout h.memories) i) (sym hardware.layout) (copying_needs h.desc (copies h.layout h.memories) i fits.states found);
+      checked = may_be_checked h.desc m hardware.described fits;
       needs = needs_there h.desc m hardware.described fits numbers p there;
     }

@@ -14,7 +14,7 @@ use Rattle.seq_turns.specs.Machines.{Machine, Turn}
 use Rattle.seq_turns.specs.Machines.Turn.{Moves, Looks, Copies_unit, Stops}
 use Rattle.seq_turns.specs.Allowed.{Allowed}
 use Rattle.seq_turns.specs.Events.{after_turn}
-use Rattle.seq_stands.specs.Fit.{Fit, ClearsInOrder}
+use Rattle.seq_stands.specs.Fit.{Fit}
 use Rattle.seq_machine.specs.declared.hardware.Hardware.{Hardware}
 use Rattle.seq_machine.specs.Plain.{Outside, machine_of, IsOutside}
 use Rattle.seq_machine.specs.Built.{IsBuilt}
@@ -66,12 +66,9 @@ shown_by lines marks = record { history = []; sent = λ l. replicate (line_at li
 pub is_shown : (lines : List LineView) (marks : List Bool) → IsOutside lines marks (shown_by lines marks)
 is_shown lines marks = record { accepted = λ l inside. length-replicate (line_at lines l).count 0; hung = λ l inside. refl }
 
--- bounds, and the order of recoveries, say nothing of the outside
+-- bounds say nothing of the outside
 pub fit_anywhere : (d : MachineDesc) (h : Hardware) (o o' : Outside) → Fit d (machine_of h o) → Fit d (machine_of h o')
 fit_anywhere d h o o' is = record { states = is.states; words = is.words; blocks = is.blocks; processors = is.processors; ports = is.ports; cursors = is.cursors }
-
-pub clears_anywhere : (d : MachineDesc) (h : Hardware) (o o' : Outside) → ClearsInOrder d (machine_of h o) → ClearsInOrder d (machine_of h o')
-clears_anywhere d h o o' is = record { order = is.order }
 
 pub allowed_anywhere : (d : MachineDesc) (h : Hardware) (o o' : Outside) (e : Event) → IsBuilt e → Allowed d (machine_of h o) e → Allowed d (machine_of h o') e
 allowed_anywhere d h o o' (event.Processor p) built ok = ok
@@ -79,10 +76,10 @@ allowed_anywhere d h o o' (event.Io i) built ok = ok
 allowed_anywhere d h o o' (event.Input l byte) built ok = ok
 allowed_anywhere d h o o' (event.Close l) built ok = ok
 allowed_anywhere d h o o' (event.Fail (element.Processor p)) built ok = ok
-allowed_anywhere d h o o' (event.Fail (element.Memory i)) built ok = absurd built
-allowed_anywhere d h o o' (event.Fail (element.Io i)) built ok = absurd built
+allowed_anywhere d h o o' (event.Fail (element.Memory i)) built ok = record { memory = ok.memory; up = ok.up }
+allowed_anywhere d h o o' (event.Fail (element.Io i)) built ok = ok
 allowed_anywhere d h o o' (event.Repair (element.Processor p)) built ok = ok
-allowed_anywhere d h o o' (event.Repair (element.Memory i)) built ok = absurd built
-allowed_anywhere d h o o' (event.Repair (element.Io i)) built ok = absurd built
-allowed_anywhere d h o o' (event.Upset p half reg mask) built ok = absurd built
+allowed_anywhere d h o o' (event.Repair (element.Memory i)) built ok = record { memory = ok.memory; down = ok.down }
+allowed_anywhere d h o o' (event.Repair (element.Io i)) built ok = ok
+allowed_anywhere d h o o' (event.Upset p half reg mask) built ok = record { processor = ok.processor; first_register = ok.first_register; last_register = ok.last_register; other = ok.other }
 allowed_anywhere d h o o' (event.Hangup l) built ok = absurd built

@@ -30,7 +30,8 @@ here copies cache incarnation = record {
 abbrev pub among : Copies → Changes → (ℕ → ℕ) → ℕ → Machine
 among copies cache incarnation scan = record (here copies cache 0) { incarnation = incarnation; scan = λ p. scan }
 
--- what a turn leaves in the hand of its processor; copying a unit leaves no hand changed, and is no turn of a hand
+-- What a turn leaves in the hand of its processor. No turn by what one processor reads copies a unit (LocalTurnsCopyNothing of
+-- Local.antt), so what is said of such a turn here, and below, is never asked for.
 abbrev pub turned : Turn → Turned
 turned (Moves move) = Moved move.hand move.note
 turned (Looks next move) = Moved move.hand move.note

@@ -9,6 +9,7 @@ pub mod Starting
 pub mod Ports
 pub mod Serving
 pub mod Happening
+pub mod Checking
 pub mod Settling
 pub mod Built
 pub mod Ready

@@ -1,5 +1,5 @@
--- A turn of a processor where no memory is to be copied: what it needs, and what it leaves.
-use Rattle.std.specs.Prelude.{◌≡◌, ℕ, ◌+◌, ◌^◌, ◌<◌, ◌≤◌, true, false, List, [], length, slice_index, slice_set, Option, Some, None}
+-- A turn of a processor by which no memory is copied: what it needs, and what it leaves; and which turns copy one.
+use Rattle.std.specs.Prelude.{◌≡◌, ℕ, ◌+◌, ◌^◌, ◌<◌, ◌≤◌, Bool, true, false, if◌then◌else◌, List, [], length, slice_index, slice_set, Option, Some, None}
 use Rattle.seq_words.specs.declared.description.MachineDesc.{MachineDesc}
 use Rattle.seq_words.specs.declared.kinds.Element.TheVariants as element
 use Rattle.seq_flat.specs.declared.state.End.TheVariants.{Live}
@@ -8,6 +8,7 @@ use Rattle.seq_layout.specs.Copies.{Copies, copies}
 use Rattle.seq_cache.specs.Changes.{Changes}
 use Rattle.seq_process.specs.declared.running.Running.{Running}
 use Rattle.seq_ruling.specs.Ruling.{HaveRulingWords, AreHeldByOneOf}
+use Rattle.seq_reintegrate.specs.Needs.{CopyingNeeds}
 use Rattle.seq_kernel.specs.Bounds.{IsWithin, AreReadable}
 use Rattle.seq_kernel.specs.declared.outcomes.Note.{Note}
 use Rattle.seq_kernel.specs.declared.outcomes.Note.TheVariants.{Nothing, Stopped as StopsElement}
@@ -22,6 +23,7 @@ use Rattle.seq_turns.specs.Processors.{is_free, deserted, seeks, runs, turn}
 use Rattle.seq_recover.specs.Needs.{RecoveryNeeds}
 use Rattle.seq_machine.specs.Here.{here, among, turned, cache_after}
 use Rattle.seq_machine.specs.Needs.{MayBeSaved, NeedsOf}
+use Rattle.seq_machine.specs.Checking.{MayBeChecked}
 use Rattle.seq_machine.specs.declared.turned.Turned.{Turned}
 use Rattle.seq_machine.specs.declared.turned.Turned.TheVariants as left
 use Rattle.seq_machine.specs.declared.hardware.Processor.{Processor}
@@ -107,9 +109,25 @@ abbrev pub incarnations_after : Option Note → List ℕ → ℕ → List ℕ
 incarnations_after (Some note) incarnations pe = incarnations
 incarnations_after None incarnations pe = slice_set incarnations pe (slice_index incarnations pe + 1)
 
--- Processor pe of the hardware may take a turn: no memory is to be copied, and all that the turn needs is there.
+-- a processor that seeks or runs copies a memory, where one is to be copied
+abbrev pub is_copier : Hand → Bool
+is_copier hand.Down = false
+is_copier hand.Seek = true
+is_copier (hand.Claiming q c) = false
+is_copier (hand.Running r) = true
+is_copier (hand.Acquiring r t c) = false
+is_copier (hand.Flushing r cause mask f) = false
+is_copier (hand.Unlocking r cause mask l) = false
+is_copier (hand.Leaving q l) = false
+is_copier (hand.Recovering r) = false
+
+abbrev pub copied_by : Option ℕ → Hand → Option ℕ
+copied_by found h = if is_copier h then found else None
+
+-- Processor pe of the hardware may take a turn: all that the turn needs is there, also where it copies a unit of a memory, or stops.
 pub record MayTurn (h : Hardware) (pe : ℕ) : Type 0 where
   pub processor : pe < h.desc.processors
   pub incarnation : slice_index h.incarnations pe < 2 ^ 48
-  pub uncopied : copied_memory h.desc (copies h.layout h.memories) ≡ None
+  pub copying : (i : ℕ) → copied_memory h.desc (copies h.layout h.memories) ≡ Some i → CopyingNeeds h.layout (copies h.layout h.memories) i
+  pub checked : MayBeChecked h.desc (copies h.layout h.memories)
   pub needs : TurnNeeds h.desc (copies h.layout h.memories) (processor_of h pe).cache (slice_index h.scan pe) (processor_of h pe).hand

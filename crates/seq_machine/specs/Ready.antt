@@ -5,12 +5,9 @@ use Rattle.seq_stands.specs.FitNumbers.{NumbersBelow}
 use Rattle.seq_machine.specs.declared.hardware.Hardware.{Hardware}
 use Rattle.seq_machine.specs.Plain.{machine_of, IsHardware}
 use Rattle.seq_machine.specs.Starting.{no_outside}
-use Rattle.seq_machine.specs.Built.{MemoriesServe}
-use Rattle.seq_machine.specs.Settling.{held_copies}
 
--- it is within its bounds, every memory is in service, and its incarnations and numbers of commits are below n
+-- it is within its bounds, and its incarnations and numbers of commits are below n
 pub record IsReady (n : ℕ) (h : Hardware) : Type 0 where
   pub hardware : IsHardware h
   pub fit : Fit h.desc (machine_of h no_outside)
-  pub serving : MemoriesServe h.desc (held_copies h)
   pub numbers : NumbersBelow n h.desc (machine_of h no_outside)

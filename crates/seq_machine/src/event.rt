@@ -1,20 +1,20 @@
 // What the hardware makes of an event.
-ghost use Rattle.std.specs.Prelude.{◌≡◌, ℕ, ◌≤◌, [], length, Option, Some, IfOk, OnOk, IfErr, OnErr, IsSome};
+ghost use Rattle.std.specs.Prelude.{◌≡◌, ℕ, ◌≤◌, [], length, Option, Some, IfOk, OnOk, IfErr, OnErr, IsSome, List, None};
 ghost use Rattle.seq_words.specs.Description.{line_count};
 ghost use Rattle.seq_words.specs.declared.events.Event.TheVariants as event;
 ghost use Rattle.seq_shelf.specs.Outlets.{views, marks};
 ghost use Rattle.seq_shelf.specs.Rows.{AllAccept};
-ghost use Rattle.seq_shelf.specs.Told.{Grows};
+ghost use Rattle.seq_shelf.specs.Told.{Grows, LineView};
 ghost use Rattle.seq_turns.specs.Allowed.{Allowed};
-ghost use Rattle.seq_turns.specs.Events.{happens, note};
-ghost use Rattle.seq_stands.specs.Fit.{Fit, ClearsInOrder};
+ghost use Rattle.seq_turns.specs.Events.{happens, note, check};
+ghost use Rattle.seq_stands.specs.Fit.{Fit};
 ghost use Rattle.seq_stands.specs.FitNumbers.{NumbersFit};
 ghost use Rattle.seq_machine.specs.Plain.{Outside, machine_of, outside_of, IsOutside, IsHardware};
 ghost use Rattle.seq_machine.specs.Starting.{no_outside};
-ghost use Rattle.seq_machine.specs.Settling.{held_copies};
-ghost use Rattle.seq_machine.specs.Built.{IsBuilt, MemoriesServe};
+ghost use Rattle.seq_machine.specs.Built.{IsBuilt};
 ghost use Rattle.seq_machine.specs.Processors.{MayTurn};
-ghost use Rattle.seq_machine.specs.Happening.{sent_in, entries_in, entries_of, ChronicleStops, CountsStay, StopsAtCommit, StopsFor};
+ghost use Rattle.seq_machine.specs.Happening.{sent_in, entries_in, entries_of, ChronicleStops, CountsStay};
+ghost use Rattle.seq_machine.specs.Checking.{machine_left, StaysUnlessCheck, EndsFor};
 
 use crate::operations::commit_of;
 use crate::{Hardware, Note, Stop};
@@ -57,25 +57,26 @@ impl Hardware {
         requires may { MayTurn self.old pe.0 }
         ensures machine { (o : Outside) → OnOk result (machine_of self.new (outside_of (happens self.old.desc (machine_of self.old o) (event.Processor pe))) ≡ happens self.old.desc (machine_of self.old o) (event.Processor pe)) }
         ensures note { (o : Outside) → IfOk result (λ n. n ≡ note self.old.desc (machine_of self.old o) (event.Processor pe)) }
+        ensures unchecked { (o : Outside) → OnOk result (check self.old.desc (machine_of self.old o) (event.Processor pe) ≡ None) }
         ensures entries { IfOk result (λ n. Grows (C.chronicle chronicle.old).told (C.chronicle chronicle.new).told (entries_in n)) }
         ensures unsent { IfOk result (λ n. (l : ℕ) → sent_in n l ≡ []) }
-        ensures err { OnErr result (self.new ≡ self.old) }
+        ensures stays { IfErr result (StaysUnlessCheck self.old self.new) }
+        ensures stopped { (o : Outside) → IfErr result (λ s. machine_of self.new (outside_of (machine_left self.old.desc (machine_of self.old o) (event.Processor pe) s)) ≡ machine_left self.old.desc (machine_of self.old o) (event.Processor pe) s) }
         ensures err_entries { OnErr result ((C.chronicle chronicle.new).told ≡ (C.chronicle chronicle.old).told) }
-        ensures cause { (o : Outside) → IfErr result (StopsAtCommit (note self.old.desc (machine_of self.old o) (event.Processor pe)) (C.chronicle chronicle.old) (C.chronicle chronicle.new)) }
+        ensures cause { (o : Outside) (before after : List LineView) → IfErr result (EndsFor self.old.desc (machine_of self.old o) (event.Processor pe) before after (C.chronicle chronicle.old) (C.chronicle chronicle.new)) }
         ensures counts { CountsStay (C.chronicle chronicle.old) (C.chronicle chronicle.new) }
         ensures hardware { IsHardware self.new }
         ensures desc { self.new.desc ≡ self.old.desc }
     {
         let entry = self.commit(pe);
         tell(entry, chronicle)?;
-        let note = self.processor_turn(pe);
-        Ok(note)
+        self.processor_turn(pe)
     }
 
     /// Makes an event, which may be made: the machine is that of the table then, with the table's note. The lines accept the byte of
-    /// a note that says so and nothing else, and the chronicle gets the entry of a note that says so. After an error nothing has
-    /// changed: the line or the chronicle that the note would have asked has a fault, or was refused memory. So far processors fail
-    /// and are repaired, and recoveries are made; no other element fails, and nothing is struck or hung up.
+    /// a note that says so and nothing else, and the chronicle gets the entry of a note that says so. The run ends where the line or
+    /// the chronicle that the note would have asked has a fault, or was refused memory: then nothing has changed. It ends at a machine
+    /// check too, where an element stops while something stands against it: then the stop stands. So far no line is hung up.
     pub fn event<C: Chronicle>(
         &mut self,
         event: Event,
@@ -85,22 +86,22 @@ impl Hardware {
         requires hardware { IsHardware self.old }
         requires fit { Fit self.old.desc (machine_of self.old no_outside) }
         requires numbers { NumbersFit self.old.desc (machine_of self.old no_outside) }
-        requires serving { MemoriesServe self.old.desc (held_copies self.old) }
-        requires clears { ClearsInOrder self.old.desc (machine_of self.old no_outside) }
         requires built { IsBuilt event }
         requires allowed { Allowed self.old.desc (machine_of self.old no_outside) event }
         requires lines { line_count self.old.desc ≤ length lines.old.items }
         ensures machine { (o : Outside) → IsOutside (views line lines.old.items) (marks lines.old.items) o → OnOk result (machine_of self.new (outside_of (happens self.old.desc (machine_of self.old o) event)) ≡ happens self.old.desc (machine_of self.old o) event) }
         ensures note { (o : Outside) → IsOutside (views line lines.old.items) (marks lines.old.items) o → IfOk result (λ n. n ≡ note self.old.desc (machine_of self.old o) event) }
+        ensures unchecked { (o : Outside) → IsOutside (views line lines.old.items) (marks lines.old.items) o → OnOk result (check self.old.desc (machine_of self.old o) event ≡ None) }
         ensures sent { IfOk result (λ n. AllAccept (views line lines.old.items) (views line lines.new.items) (sent_in n)) }
         ensures entries { IfOk result (λ n. Grows (C.chronicle chronicle.old).told (C.chronicle chronicle.new).told (entries_in n)) }
         ensures outside { (o : Outside) → IsOutside (views line lines.old.items) (marks lines.old.items) o → OnOk result (IsOutside (views line lines.new.items) (marks lines.new.items) (outside_of (happens self.old.desc (machine_of self.old o) event))) }
 
-        // After an error nothing has changed.
-        ensures err { OnErr result (self.new ≡ self.old) }
+        // Where the run ends, the stop stands after a machine check, else nothing has changed.
+        ensures stays { IfErr result (StaysUnlessCheck self.old self.new) }
+        ensures stopped { (o : Outside) → IsOutside (views line lines.old.items) (marks lines.old.items) o → IfErr result (λ s. machine_of self.new (outside_of (machine_left self.old.desc (machine_of self.old o) event s)) ≡ machine_left self.old.desc (machine_of self.old o) event s) }
         ensures err_lines { OnErr result (AllAccept (views line lines.old.items) (views line lines.new.items) (λ l. [])) }
         ensures err_entries { OnErr result ((C.chronicle chronicle.new).told ≡ (C.chronicle chronicle.old).told) }
-        ensures cause { (o : Outside) → IsOutside (views line lines.old.items) (marks lines.old.items) o → IfErr result (StopsFor (note self.old.desc (machine_of self.old o) event) (views line lines.old.items) (views line lines.new.items) (C.chronicle chronicle.old) (C.chronicle chronicle.new)) }
+        ensures cause { (o : Outside) → IsOutside (views line lines.old.items) (marks lines.old.items) o → IfErr result (EndsFor self.old.desc (machine_of self.old o) event (views line lines.old.items) (views line lines.new.items) (C.chronicle chronicle.old) (C.chronicle chronicle.new)) }
 
         ensures counts { CountsStay (C.chronicle chronicle.old) (C.chronicle chronicle.new) }
 
@@ -109,8 +110,7 @@ impl Hardware {
         ensures number { length lines.new.items ≡ length lines.old.items }
         ensures hardware { IsHardware self.new }
         ensures desc { self.new.desc ≡ self.old.desc }
-        ensures fit { Fit self.new.desc (machine_of self.new no_outside) }
-        ensures serving { MemoriesServe self.new.desc (held_copies self.new) }
+        ensures fit { OnOk result (Fit self.new.desc (machine_of self.new no_outside)) }
     {
         match event {
             Event::Processor(pe) => self.told_turn(pe, chronicle),
@@ -123,12 +123,15 @@ impl Hardware {
                 self.close(line);
                 Ok(Note::Made)
             }
-            Event::Fail(element) => Ok(self.fail(element)),
+            Event::Fail(element) => self.fail(element),
             Event::Repair(element) => {
                 self.repair(element);
                 Ok(Note::Made)
             }
-            Event::Upset(_, _, _, _) => unreachable!(),
+            Event::Upset(pe, half, reg, mask) => {
+                self.upset(pe, half, reg, mask);
+                Ok(Note::Made)
+            }
             Event::Hangup(_) => unreachable!(),
         }
     }

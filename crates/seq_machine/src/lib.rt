@@ -2,7 +2,10 @@
 #![tactic(auto)]
 
 mod causes;
+mod checks;
 mod claims;
+mod copying;
+mod elements;
 mod event;
 mod failures;
 mod flushes;
@@ -20,10 +23,11 @@ mod runs;
 mod seeks;
 mod settled;
 mod start;
+mod strikes;
 mod turned;
 
 pub use hardware::{Hardware, Processor, Stop};
-pub use laws::{operations_are_local, operations_move_or_stop};
+pub use laws::{local_turns_copy_nothing, operations_are_local, operations_move_or_stop};
 pub use seq_io::{IoElement, PortState};
 pub use seq_kernel::Note;
 pub use seq_turns::{FlushAt, Hand, RecoveryAt, ReleaseAt};
@@ -32,5 +36,7 @@ pub use seq_turns::{FlushAt, Hand, RecoveryAt, ReleaseAt};
 mod programs;
 #[cfg(test)]
 mod stage;
+#[cfg(test)]
+mod strike_tests;
 #[cfg(test)]
 mod tests;

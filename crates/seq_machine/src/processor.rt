@@ -11,19 +11,23 @@ ghost use Rattle.seq_turns.specs.Machines.Turn.{Moves};
 ghost use Rattle.seq_turns.specs.Recoveries.{recovery_move};
 ghost use Rattle.seq_recover.specs.Needs.{RecoveryNeeds};
 ghost use Rattle.seq_turns.specs.Processors.{runs, turn};
-ghost use Rattle.seq_turns.specs.Events.{happens, note};
+ghost use Rattle.seq_turns.specs.Events.{happens};
+ghost use Rattle.seq_turns.specs.Reading.{copied_memory};
 ghost use Rattle.seq_machine.specs.Here.{here, turned, change_of};
 ghost use Rattle.seq_machine.specs.Needs.{IsOperating, NeedsOf};
-ghost use Rattle.seq_machine.specs.Plain.{Outside, IsHardware, machine_of, outside_of};
-ghost use Rattle.seq_machine.specs.Processors.{RunNeeds, TurnNeeds, MayTurn, local_turn, hand_left, cache_left, note_left, processor_after, cursor_after};
+ghost use Rattle.seq_machine.specs.Plain.{Outside, IsHardware, processor_of, machine_of, outside_of};
+ghost use Rattle.seq_machine.specs.Settling.{held_copies};
+ghost use Rattle.seq_machine.specs.Checking.{answer};
+ghost use Rattle.seq_machine.specs.Processors.{RunNeeds, TurnNeeds, MayTurn, local_turn, hand_left, cache_left, note_left, processor_after, cursor_after, copied_by};
 
 use crate::causes::found;
+use crate::checks::answered;
 use crate::operations::operate;
 use crate::recovers::recovering;
 use crate::runs::{Ran, acquire, run};
 use crate::seeks::seek;
 use crate::turned::Turned;
-use crate::{Hardware, Note, Processor};
+use crate::{Hardware, Note, Processor, Stop};
 use seq_layout::Layout;
 use seq_memory::Memories;
 use seq_turns::Hand;
@@ -146,7 +150,7 @@ impl Processor {
         Note::Moved
     }
 
-    /// A turn of a processor: its note, or None where it stops since the halves of its process differ. No memory is to be copied.
+    /// A turn of a processor: its note, or None where it stops since the halves of its process differ. It copies no memory.
     pub fn turn(
         &mut self,
         cursor: &mut u8,
@@ -189,12 +193,14 @@ impl Processor {
 }
 
 impl Hardware {
-    /// A turn of a processor. Where the halves of its process differ, it stops, and all that names it names one that isn't live.
-    pub(crate) fn processor_turn(&mut self, pe: Pe) -> Note
+    // A turn of a processor by which no memory is copied. Where the halves of its process differ, it stops, and all that names it
+    // names one that isn't live. The stop may be a machine check.
+    fn own_turn(&mut self, pe: Pe) -> Result<Note, Stop>
         requires hardware { IsHardware self.old }
         requires may { MayTurn self.old pe.0 }
+        requires own { copied_by (copied_memory self.old.desc (held_copies self.old)) (processor_of self.old pe.0).hand ≡ None }
         ensures machine { (o : Outside) → machine_of self.new (outside_of (happens self.old.desc (machine_of self.old o) (Event.Processor pe))) ≡ happens self.old.desc (machine_of self.old o) (Event.Processor pe) }
-        ensures note { (o : Outside) → result ≡ note self.old.desc (machine_of self.old o) (Event.Processor pe) }
+        ensures answer { (o : Outside) → result ≡ answer self.old.desc (machine_of self.old o) (Event.Processor pe) }
         ensures hardware { IsHardware self.new }
         ensures desc { self.new.desc ≡ self.old.desc }
     {
@@ -210,12 +216,29 @@ impl Hardware {
             &self.desc,
         );
         match note {
-            Some(note) => note,
+            Some(note) => Ok(note),
             None => {
+                let stopped = Element::Processor(pe);
+                let blocker = self.blocker(stopped);
                 let incarnation = self.incarnations.get(at);
                 self.incarnations.set(at, incarnation + 1);
-                Note::Stopped(Element::Processor(pe))
+                answered(stopped, blocker)
             }
+        }
+    }
+
+    /// A turn of a processor. While a memory is to be copied, one that seeks or runs copies the next unit of it, or waits.
+    pub(crate) fn processor_turn(&mut self, pe: Pe) -> Result<Note, Stop>
+        requires hardware { IsHardware self.old }
+        requires may { MayTurn self.old pe.0 }
+        ensures machine { (o : Outside) → machine_of self.new (outside_of (happens self.old.desc (machine_of self.old o) (Event.Processor pe))) ≡ happens self.old.desc (machine_of self.old o) (Event.Processor pe) }
+        ensures answer { (o : Outside) → result ≡ answer self.old.desc (machine_of self.old o) (Event.Processor pe) }
+        ensures hardware { IsHardware self.new }
+        ensures desc { self.new.desc ≡ self.old.desc }
+    {
+        match self.copied_by(pe) {
+            Some(me) => Ok(self.copy_or_hold(me)),
+            None => self.own_turn(pe),
         }
     }
 }

@@ -1,27 +1,26 @@
 // Machines on which scenes are played, and how their events are made.
-ghost use Rattle.std.specs.Prelude.{◌≡◌, ℕ, ◌<◌, true, false, IfOk};
+ghost use Rattle.std.specs.Prelude.{◌≡◌, ◌≢◌, ◌<◌, Bool, true, false, Some, IfOk};
 ghost use Rattle.seq_words.specs.Description.{IsBetween, IsSize, IsDescription};
 ghost use Rattle.seq_samples.specs.Samples.{process_of_size};
 ghost use Rattle.seq_words.specs.declared.kinds.Element.TheVariants as element;
-ghost use Rattle.seq_turns.specs.declared.recovery.Locks.{Locks};
-ghost use Rattle.seq_turns.specs.declared.recovery.Recovery.{Recovery};
-ghost use Rattle.seq_turns.specs.declared.recovery.RecoveryAt.TheVariants as recovery;
-ghost use Rattle.seq_turns.specs.declared.hand.Hand.TheVariants.{Recovering};
-ghost use Rattle.seq_turns.specs.Recoveries.{is_left};
-ghost use Rattle.seq_turns.specs.Allowed.{MayArrive, MayClose, FailureAllowed, RepairAllowed, Allowed};
-ghost use Rattle.seq_stands.specs.Fit.{ClearsInOrder};
+ghost use Rattle.seq_memory.specs.declared.element.State.TheVariants.{Down};
+ghost use Rattle.seq_turns.specs.Allowed.{MayArrive, MayClose, FailureAllowed, RepairAllowed, MayStrike, StrikeAllowed, Allowed};
+ghost use Rattle.seq_pair.specs.Halves.{other_half};
 ghost use Rattle.seq_machine.specs.Plain.{machine_of, IsHardware};
 ghost use Rattle.seq_machine.specs.Starting.{no_outside};
 ghost use Rattle.seq_machine.specs.Ports.{port_of};
 ghost use Rattle.seq_machine.specs.Settling.{held_copies};
-ghost use Rattle.seq_machine.specs.Built.{IsBuiltElement, IsBuilt};
+ghost use Rattle.seq_machine.specs.Built.{IsBuilt};
+ghost use Rattle.seq_machine.specs.Checking.{StaysUnlessCheck};
 ghost use Rattle.seq_machine.specs.Ready.{IsReady};
 
-use crate::{Hand, Hardware, Note, RecoveryAt, Stop};
-use seq_layout::WordAt;
+use crate::{Hand, Hardware, Note, Stop};
+use seq_memory::State;
+use seq_samples::lone_process;
 use seq_shelf::{Chronicle, MemChronicle, MemLine, Outlet};
 use seq_words::{
-    Bytes, Element, Event, Items, LineNo, MachineDesc, NoMemory, Pid, ProcessDesc, Seg, SegmentDesc,
+    Bytes, Element, Event, Half, Ioe, Items, LineNo, MachineDesc, Me, NoMemory, Pe, ProcessDesc,
+    SegmentDesc,
 };
 use std::alloc::Global;
 use std::process::Abort;
@@ -100,6 +99,15 @@ pub fn alone(
     ))
 }
 
+/// One process alone on three memories, the last of which keeps nothing of it.
+pub fn without_units(alloc: Global) -> Result<MachineDesc, NoMemory>
+    ensures { IfOk result IsDescription }
+{
+    let mut desc = lone_process(alloc)?;
+    desc.memories = 3;
+    Ok(desc)
+}
+
 /// A machine of one processor and two I/O elements, and of one process, which has lines 0 and 1.
 pub fn with_two_lines(
     rt: &impl Abort,
@@ -161,15 +169,53 @@ pub fn chronicle(alloc: Global, fails: bool) -> Result<MemChronicle, Fail> {
     Ok(MemChronicle::new(alloc, failing))
 }
 
-/// A machine, and a number above how many events it has made.
+// Whether a half may be struck where this one was, if any: not where the other one was.
+fn is_free_of(struck: Option<Half>, half: Half) -> bool
+    ensures { result ≡ true → struck ≢ Some (other_half half) }
+{
+    match (struck, half) {
+        (None, _) => true,
+        (Some(Half::A), Half::A) => true,
+        (Some(Half::A), Half::B) => false,
+        (Some(Half::B), Half::A) => false,
+        (Some(Half::B), Half::B) => true,
+    }
+}
+
+// Whether a half may be struck of what a hand runs.
+fn may_strike(hand: &Hand, half: Half) -> bool
+    ensures { result ≡ true → MayStrike half hand.now }
+{
+    match hand {
+        Hand::Running(running) => is_free_of(running.pair.struck, half),
+        Hand::Acquiring(running, _, _) => is_free_of(running.pair.struck, half),
+        Hand::Flushing(running, _, _, _) => is_free_of(running.pair.struck, half),
+        Hand::Unlocking(running, _, _, _) => is_free_of(running.pair.struck, half),
+        Hand::Down => true,
+        Hand::Seek => true,
+        Hand::Claiming(_, _) => true,
+        Hand::Leaving(_, _) => true,
+        Hand::Recovering(_) => true,
+    }
+}
+
+/// A machine, a number above how many events it has made, and whether a machine check has ended its run.
 #[derive(Drop)]
 pub struct Stage {
     pub hardware: Hardware,
     pub made: u64,
+    pub ended: bool,
 }
 
 /// The most events that a scene makes.
 const MOST: u64 = 1_000_000;
+
+// Whether the run ends by a machine check. Else nothing has changed.
+fn is_check(stop: &Stop) -> bool
+    ensures { (old new : Hardware) → result ≡ false → StaysUnlessCheck old new stop.now → new ≡ old }
+{
+    matches!(stop, Stop::Check(_, _))
+}
 
 impl Stage {
     /// The machine of a description at its start.
@@ -178,7 +224,11 @@ impl Stage {
         ensures { IfOk result (λ stage. IsReady stage.made stage.hardware) }
     {
         let hardware = Hardware::new(alloc, desc)?;
-        Ok(Stage { hardware, made: 1 })
+        Ok(Stage {
+            hardware,
+            made: 1,
+            ended: false,
+        })
     }
 
     // Whether a byte may arrive at a line.
@@ -204,21 +254,45 @@ impl Stage {
         !self.hardware.ports.at(line.0 as usize).closed
     }
 
+    // Whether a memory is down.
+    #[tactic(auto, using(seq_ruling::proofs::States::state_is))]
+    fn is_lost(&self, me: Me) -> bool
+        requires hardware { IsHardware self.now.hardware }
+        requires memory { me.0 < self.now.hardware.desc.memories }
+        ensures lost { result ≡ true → (held_copies self.now.hardware).state me.0 ≡ Down }
+        ensures kept { result ≡ false → (held_copies self.now.hardware).state me.0 ≢ Down }
+    {
+        let memory = self.hardware.memories.elements.at(me.0 as usize);
+        matches!(memory.state, State::Down)
+    }
+
+    // Whether an I/O element works, where the machine has it.
+    fn works(&self, io: Ioe) -> Option<bool>
+        requires { IsHardware self.now.hardware }
+        ensures { (up : Bool) → result ≡ Some up → (io.0 < self.now.hardware.desc.ios) × (((machine_of self.now.hardware no_outside).io io.0).up ≡ up) }
+    {
+        if io.0 < self.hardware.desc.ios {
+            Some(self.hardware.ios.at(io.0 as usize).up)
+        } else {
+            None
+        }
+    }
+
     // Whether an element may fail.
     fn may_fail(&self, element: Element) -> bool
-        ensures built { result ≡ true → IsBuiltElement element }
+        requires { IsHardware self.now.hardware }
         ensures allowed { result ≡ true → FailureAllowed self.now.hardware.desc (machine_of self.now.hardware no_outside) element }
     {
         match element {
             Element::Processor(pe) => pe.0 < self.hardware.desc.processors,
-            Element::Memory(_) | Element::Io(_) => false,
+            Element::Memory(me) => me.0 < self.hardware.desc.memories && !self.is_lost(me),
+            Element::Io(io) => self.works(io) == Some(true),
         }
     }
 
     // Whether an element may be repaired.
     fn may_repair(&self, element: Element) -> bool
         requires { IsHardware self.now.hardware }
-        ensures built { result ≡ true → IsBuiltElement element }
         ensures allowed { result ≡ true → RepairAllowed self.now.hardware.desc (machine_of self.now.hardware no_outside) element }
     {
         match element {
@@ -226,55 +300,20 @@ impl Stage {
                 pe.0 < self.hardware.desc.processors
                     && matches!(self.hardware.processors.at(pe.0 as usize).hand, Hand::Down)
             }
-            Element::Memory(_) | Element::Io(_) => false,
+            Element::Memory(me) => me.0 < self.hardware.desc.memories && self.is_lost(me),
+            Element::Io(io) => self.works(io) == Some(false),
         }
     }
 
-    // Whether lock word k doesn't name a process.
-    fn is_clear(&self, pid: Pid, k: u32) -> bool
+    // Whether a half of what a processor runs may be struck.
+    fn may_be_struck(&self, pe: Pe, half: Half, reg: u8) -> bool
         requires { IsHardware self.now.hardware }
-        ensures { result ≡ true → is_left self.now.hardware.desc (held_copies self.now.hardware) pid.0 k ≡ false }
+        ensures { result ≡ true → StrikeAllowed self.now.hardware.desc (machine_of self.now.hardware no_outside) pe.0 half reg }
     {
-        let layout = &self.hardware.layout;
-        if k / 2 >= layout.segments() as u32 {
+        if pe.0 >= self.hardware.desc.processors || reg < 1 || reg > 32 {
             return false;
         }
-        let at = WordAt {
-            extent: layout.segment(Seg((k / 2) as u8)),
-            word: 0,
-        };
-        let (memories, shadow) = (&self.hardware.memories, k % 2 == 0);
-        layout.serves(memories, at.extent, shadow)
-            && layout.read_word(memories, at, shadow) != u64::from(pid.0) + 1
-    }
-
-    // Whether no lock word below the cursor of a recovery names its process.
-    fn is_in_order(&self, hand: &Hand) -> bool
-        requires { IsHardware self.now.hardware }
-        ensures { result ≡ true → (r : Recovery Locks) (k : ℕ) → hand.now ≡ Recovering (recovery.Locks r) → k < r.cursor → is_left self.now.hardware.desc (held_copies self.now.hardware) r.pid.0 k ≡ false }
-    {
-        let Hand::Recovering(RecoveryAt::Locks(recovery)) = hand else {
-            return true;
-        };
-        for k in 0..recovery.cursor {
-            if !self.is_clear(recovery.pid, k) {
-                return false;
-            }
-        }
-        true
-    }
-
-    // Whether the recoveries clear locks in their order.
-    fn clears_in_order(&self) -> bool
-        requires { IsHardware self.now.hardware }
-        ensures { result ≡ true → ClearsInOrder self.now.hardware.desc (machine_of self.now.hardware no_outside) }
-    {
-        for at in 0..self.hardware.processors.len() {
-            if !self.is_in_order(&self.hardware.processors.at(at).hand) {
-                return false;
-            }
-        }
-        true
+        may_strike(&self.hardware.processors.at(pe.0 as usize).hand, half)
     }
 
     // Whether an event may be made.
@@ -290,12 +329,13 @@ impl Stage {
             Event::Close(line) => self.may_close(line),
             Event::Fail(element) => self.may_fail(element),
             Event::Repair(element) => self.may_repair(element),
-            Event::Upset(..) | Event::Hangup(_) => false,
+            Event::Upset(pe, half, reg, _) => self.may_be_struck(pe, half, reg),
+            Event::Hangup(_) => false,
         }
     }
 
-    /// Makes an event.
-    pub fn make<C: Chronicle>(
+    // Makes an event of a run that hasn't ended.
+    fn go<C: Chronicle>(
         &mut self,
         rt: &impl Abort,
         event: Event,
@@ -303,16 +343,34 @@ impl Stage {
         chronicle: &mut C,
     ) -> Outcome
         requires { IsReady self.old.made self.old.hardware }
-        ensures { IsReady self.new.made self.new.hardware }
+        ensures { self.new.ended ≡ false → IsReady self.new.made self.new.hardware }
     {
         assert!(rt; self.made < MOST && self.hardware.ports.len() <= lines.len());
-        assert!(rt; self.allows(event) && self.clears_in_order());
+        assert!(rt; self.allows(event));
         match self.hardware.event(event, lines, chronicle) {
             Ok(note) => {
                 self.made += 1;
                 Ok(note)
             }
-            Err(stop) => Err(stop),
+            Err(stop) => {
+                self.ended = is_check(&stop);
+                Err(stop)
+            }
         }
+    }
+
+    /// Makes an event. After a machine check no more may be made.
+    pub fn make<C: Chronicle>(
+        &mut self,
+        rt: &impl Abort,
+        event: Event,
+        lines: &mut Vec<Outlet>,
+        chronicle: &mut C,
+    ) -> Outcome
+        requires { self.old.ended ≡ false → IsReady self.old.made self.old.hardware }
+        ensures { self.new.ended ≡ false → IsReady self.new.made self.new.hardware }
+    {
+        assert!(rt; !self.ended);
+        self.go(rt, event, lines, chronicle)
     }
 }

@@ -1,59 +1,86 @@
 // Scenes: orders of turns with what each turn comes to, worked by hand from the rules.
+ghost use Rattle.std.specs.Prelude.{◌≡◌, false};
 ghost use Rattle.seq_words.specs.Description.{IsDescription};
 ghost use Rattle.seq_machine.specs.Ready.{IsReady};
 
 use crate::programs::{COUNT, ECHO, HELLO, LOOP, SPREAD};
-use crate::stage::{Outcome, Row, Stage, alone, chronicle, line, sharing, with_two_lines};
+use crate::stage::{
+    Outcome, Row, Stage, alone, chronicle, line, sharing, with_two_lines, without_units,
+};
 use crate::{Note, Stop};
 use seq_kernel::{Cause, Reason};
 use seq_samples::lone_process;
 use seq_shelf::{MemChronicle, Outlet};
-use seq_words::{Element, Entry, Event, Ioe, LineNo, MachineDesc, Pe, Pid, Seg};
+use seq_words::{Blocker, Element, Entry, Event, Ioe, LineNo, MachineDesc, Me, Pe, Pid, Seg};
 use std::alloc::Global;
 use std::process::Abort;
 use std::test::Fail;
 
-const P0: Event = Event::Processor(Pe(0));
+pub const P0: Event = Event::Processor(Pe(0));
 
-const P1: Event = Event::Processor(Pe(1));
+pub const P1: Event = Event::Processor(Pe(1));
 
-const I0: Event = Event::Io(Ioe(0));
+pub const I0: Event = Event::Io(Ioe(0));
 
-const I1: Event = Event::Io(Ioe(1));
+pub const I1: Event = Event::Io(Ioe(1));
 
-const FAIL_0: Event = Event::Fail(Element::Processor(Pe(0)));
+pub const FAIL_0: Event = Event::Fail(Element::Processor(Pe(0)));
 
 const FAIL_1: Event = Event::Fail(Element::Processor(Pe(1)));
 
-const REPAIR_0: Event = Event::Repair(Element::Processor(Pe(0)));
+pub const REPAIR_0: Event = Event::Repair(Element::Processor(Pe(0)));
 
 const REPAIR_1: Event = Event::Repair(Element::Processor(Pe(1)));
 
-const STOPPED_0: Outcome = Ok(Note::Stopped(Element::Processor(Pe(0))));
+const LOSE_0: Event = Event::Fail(Element::Memory(Me(0)));
+
+const LOSE_1: Event = Event::Fail(Element::Memory(Me(1)));
+
+const LOSE_2: Event = Event::Fail(Element::Memory(Me(2)));
+
+const MEND_0: Event = Event::Repair(Element::Memory(Me(0)));
+
+const MEND_1: Event = Event::Repair(Element::Memory(Me(1)));
+
+const MEND_2: Event = Event::Repair(Element::Memory(Me(2)));
+
+const LOST_0: Outcome = Ok(Note::Stopped(Element::Memory(Me(0))));
+
+const LOST_1: Outcome = Ok(Note::Stopped(Element::Memory(Me(1))));
+
+const LOST_2: Outcome = Ok(Note::Stopped(Element::Memory(Me(2))));
+
+const COPIED_0: Outcome = Ok(Note::Copied(Me(0)));
+
+const COPIED_2: Outcome = Ok(Note::Copied(Me(2)));
+
+const HELD_BACK: Outcome = Ok(Note::Held);
+
+pub const STOPPED_0: Outcome = Ok(Note::Stopped(Element::Processor(Pe(0))));
 
 const STOPPED_1: Outcome = Ok(Note::Stopped(Element::Processor(Pe(1))));
 
-const NOTHING: Outcome = Ok(Note::Nothing);
+pub const NOTHING: Outcome = Ok(Note::Nothing);
 
-const MADE: Outcome = Ok(Note::Made);
+pub const MADE: Outcome = Ok(Note::Made);
 
-const MOVED: Outcome = Ok(Note::Moved);
+pub const MOVED: Outcome = Ok(Note::Moved);
 
-const RAN: Outcome = Ok(Note::Ran(Pid(0)));
+pub const RAN: Outcome = Ok(Note::Ran(Pid(0)));
 
 const RAN_1: Outcome = Ok(Note::Ran(Pid(1)));
 
-const LOOKED: Outcome = Ok(Note::Looked(Pid(0)));
+pub const LOOKED: Outcome = Ok(Note::Looked(Pid(0)));
 
 const LOOKED_1: Outcome = Ok(Note::Looked(Pid(1)));
 
 const TAKEN: Outcome = Ok(Note::Taken(LineNo(0)));
 
-const SENT: Outcome = Ok(Note::Sent(LineNo(0), 0x41));
+pub const SENT: Outcome = Ok(Note::Sent(LineNo(0), 0x41));
 
-const EXITS: Outcome = Ok(Note::Found(Pid(0), Cause::Exit));
+pub const EXITS: Outcome = Ok(Note::Found(Pid(0), Cause::Exit));
 
-const ENDS: Outcome = Ok(Note::Found(Pid(0), Cause::Quantum));
+pub const ENDS: Outcome = Ok(Note::Found(Pid(0), Cause::Quantum));
 
 /// Process 0 waits for the byte with that index of line 0.
 const AWAITS_FIRST: Outcome = Ok(Note::Found(Pid(0), Cause::Wait(Reason::Input(LineNo(0), 0))));
@@ -65,7 +92,7 @@ const AWAITS_1: Outcome = Ok(Note::Found(Pid(0), Cause::Wait(Reason::Lock(Seg(0)
 
 const AWAITS_0: Outcome = Ok(Note::Found(Pid(1), Cause::Wait(Reason::Lock(Seg(0), Pid(0)))));
 
-fn entry(pid: u8, count: u32) -> Entry {
+pub fn entry(pid: u8, count: u32) -> Entry {
     Entry {
         pid: Pid(pid),
         count,
@@ -80,8 +107,8 @@ fn repeat(
     chronicle: &mut MemChronicle,
     row: &Row,
 )
-    requires { IsReady stage.old.made stage.old.hardware }
-    ensures { IsReady stage.new.made stage.new.hardware }
+    requires { stage.old.ended ≡ false → IsReady stage.old.made stage.old.hardware }
+    ensures { stage.new.ended ≡ false → IsReady stage.new.made stage.new.hardware }
 {
     for time in 0..row.1 {
         assert_eq!(rt; stage.make(rt, row.0, lines, chronicle), row.2);
@@ -89,15 +116,15 @@ fn repeat(
 }
 
 /// The rows are played one after the other.
-fn play(
+pub fn play(
     rt: &impl Abort,
     stage: &mut Stage,
     lines: &mut Vec<Outlet>,
     chronicle: &mut MemChronicle,
     rows: &[Row],
 )
-    requires { IsReady stage.old.made stage.old.hardware }
-    ensures { IsReady stage.new.made stage.new.hardware }
+    requires { stage.old.ended ≡ false → IsReady stage.old.made stage.old.hardware }
+    ensures { stage.new.ended ≡ false → IsReady stage.new.made stage.new.hardware }
 {
     for row in rows {
         repeat(rt, stage, lines, chronicle, row);
@@ -112,8 +139,8 @@ fn play_all(
     chronicle: &mut MemChronicle,
     parts: &[&[Row]],
 )
-    requires { IsReady stage.old.made stage.old.hardware }
-    ensures { IsReady stage.new.made stage.new.hardware }
+    requires { stage.old.ended ≡ false → IsReady stage.old.made stage.old.hardware }
+    ensures { stage.new.ended ≡ false → IsReady stage.new.made stage.new.hardware }
 {
     for part in parts {
         play(rt, stage, lines, chronicle, part);
@@ -128,8 +155,8 @@ fn take_order(
     chronicle: &mut MemChronicle,
     order: &[Event],
 )
-    requires { IsReady stage.old.made stage.old.hardware }
-    ensures { IsReady stage.new.made stage.new.hardware }
+    requires { stage.old.ended ≡ false → IsReady stage.old.made stage.old.hardware }
+    ensures { stage.new.ended ≡ false → IsReady stage.new.made stage.new.hardware }
 {
     for event in order {
         assert!(rt; stage.make(rt, *event, lines, chronicle).is_ok());
@@ -145,8 +172,8 @@ fn take_orders(
     order: &[Event],
     times: u32,
 )
-    requires { IsReady stage.old.made stage.old.hardware }
-    ensures { IsReady stage.new.made stage.new.hardware }
+    requires { stage.old.ended ≡ false → IsReady stage.old.made stage.old.hardware }
+    ensures { stage.new.ended ≡ false → IsReady stage.new.made stage.new.hardware }
 {
     for time in 0..times {
         take_order(rt, stage, lines, chronicle, order);
@@ -161,8 +188,8 @@ fn take_cycle(
     chronicle: &mut MemChronicle,
     cycle: &[(&[Event], u32)],
 )
-    requires { IsReady stage.old.made stage.old.hardware }
-    ensures { IsReady stage.new.made stage.new.hardware }
+    requires { stage.old.ended ≡ false → IsReady stage.old.made stage.old.hardware }
+    ensures { stage.new.ended ≡ false → IsReady stage.new.made stage.new.hardware }
 {
     for part in cycle {
         take_orders(rt, stage, lines, chronicle, part.0, part.1);
@@ -178,8 +205,8 @@ fn take_cycles(
     cycle: &[(&[Event], u32)],
     times: u32,
 )
-    requires { IsReady stage.old.made stage.old.hardware }
-    ensures { IsReady stage.new.made stage.new.hardware }
+    requires { stage.old.ended ≡ false → IsReady stage.old.made stage.old.hardware }
+    ensures { stage.new.ended ≡ false → IsReady stage.new.made stage.new.hardware }
 {
     for time in 0..times {
         take_cycle(rt, stage, lines, chronicle, cycle);
@@ -203,7 +230,7 @@ fn both_accepted(lines: &[Outlet], bytes: &[u8]) -> bool {
 
 /// On a machine with at most two lines the parts are played. It may be that the first byte that is sent to line 0, and the first
 /// commit, are refused. Line 0 accepts these bytes and line 1 none, and these entries are told.
-fn scene(
+pub fn scene(
     rt: &impl Abort,
     alloc: Global,
     stage: &mut Stage,
@@ -212,7 +239,7 @@ fn scene(
     bytes: &[u8],
     entries: &[Entry],
 ) -> Result<(), Fail>
-    requires { IsReady stage.old.made stage.old.hardware }
+    requires { stage.old.ended ≡ false → IsReady stage.old.made stage.old.hardware }
 {
     let first = Outlet {
         line: Box::new(alloc, line(alloc, faulty)?)?,
@@ -231,7 +258,7 @@ fn scene(
 }
 
 /// The same on the machine of a description at its start.
-fn first_scene(
+pub fn first_scene(
     rt: &impl Abort,
     alloc: Global,
     desc: MachineDesc,
@@ -247,7 +274,7 @@ fn first_scene(
 }
 
 /// The same on a machine of one processor, one I/O element and one process of this image, which has line 0.
-fn alone_scene(
+pub fn alone_scene(
     rt: &impl Abort,
     alloc: Global,
     image: &[u8],
@@ -262,7 +289,7 @@ fn alone_scene(
 
 /// Process 0 is claimed and exits at its eighth step; the flush is marked, and its first pass writes the outbox block and the
 /// context.
-const HELLO_BEFORE: [Row; 5] = [
+pub const HELLO_BEFORE: [Row; 5] = [
     (P0, 2, MOVED),
     (P0, 7, RAN),
     (P0, 1, EXITS),
@@ -270,12 +297,12 @@ const HELLO_BEFORE: [Row; 5] = [
     (P0, 9, MOVED),
 ];
 
-const HELLO_COMMITS: [Row; 1] = [(P0, 1, Ok(Note::Committed(Pid(0), 8)))];
+pub const HELLO_COMMITS: [Row; 1] = [(P0, 1, Ok(Note::Committed(Pid(0), 8)))];
 
 /// The second pass; the flush is closed and the process released. It has ended.
-const HELLO_AFTER: [Row; 3] = [(P0, 10, MOVED), (P0, 4, MOVED), (P0, 1, LOOKED)];
+pub const HELLO_AFTER: [Row; 3] = [(P0, 10, MOVED), (P0, 4, MOVED), (P0, 1, LOOKED)];
 
-const HELLO_SENDS: [Row; 3] = [(I0, 1, SENT), (I0, 2, MOVED), (I0, 1, NOTHING)];
+pub const HELLO_SENDS: [Row; 3] = [(I0, 1, SENT), (I0, 2, MOVED), (I0, 1, NOTHING)];
 
 const CHRONICLE_REFUSES: [Row; 1] = [(P0, 1, Err(Stop::Chronicle))];
 
@@ -391,7 +418,7 @@ fn echo_answers(rt: HostRuntime) -> Result<(), Fail> {
 }
 
 /// A process that never ends is claimed, takes five steps, and is flushed and released.
-const FIVE_STEPS: [Row; 6] = [
+pub const FIVE_STEPS: [Row; 6] = [
     (P0, 2, MOVED),
     (P0, 5, RAN),
     (P0, 1, ENDS),
@@ -490,7 +517,7 @@ fn count(
     cycle: &[(&[Event], u32)],
     times: u32,
 ) -> Result<(), Fail>
-    requires { IsReady stage.old.made stage.old.hardware }
+    requires { stage.old.ended ≡ false → IsReady stage.old.made stage.old.hardware }
 {
     let only = Outlet {
         line: Box::new(alloc, line(alloc, false)?)?,
@@ -507,7 +534,7 @@ fn count(
 }
 
 /// The same on a machine of its own.
-fn counting_in_cycles(
+pub fn counting_in_cycles(
     rt: &impl Abort,
     alloc: Global,
     rows: &[Row],
@@ -580,7 +607,7 @@ fn a_held_lock_is_waited_for(rt: HostRuntime) -> Result<(), Fail> {
 }
 
 /// The same as `alone_scene` on a machine of two processors, with a process of two blocks of its own.
-fn pair_scene(
+pub fn pair_scene(
     rt: &impl Abort,
     alloc: Global,
     parts: &[&[Row]],
@@ -603,7 +630,7 @@ const FAILS_AMID_MARK: [Row; 4] = [
 ];
 
 /// Processor 1 recovers process 0. Processor 0 is repaired meanwhile, and leaves it alone.
-const RECOVERED: [Row; 6] = [
+pub const RECOVERED: [Row; 6] = [
     // The status word is claimed; eight blocks of context, eight of an outbox and two others are copied.
     (P1, 2, MOVED),
     (P1, 18, MOVED),
@@ -712,4 +739,158 @@ fn both_count_through_failures(rt: HostRuntime) -> Result<(), Fail> {
         (&[P0, P1], 13),
     ];
     counting_in_cycles(&rt, alloc, &[], &cycle, 200)
+}
+
+/// Memory 0 fails amid the first pass of the flush, and is repaired amid the second. Nothing is copied before the flush is closed
+/// and the process released, and no element does anything but processor 0.
+const LOST_AMID_FLUSH: [Row; 12] = [
+    (P0, 6, MOVED),
+    (LOSE_0, 1, LOST_0),
+    (P1, 1, LOOKED),
+    (P0, 5, MOVED),
+    (P0, 1, Ok(Note::Committed(Pid(0), 8))),
+    (P0, 3, MOVED),
+    (MEND_0, 1, MADE),
+    (P1, 2, HELD_BACK),
+    (I0, 1, NOTHING),
+    (P0, 10, MOVED),
+    (P1, 1, HELD_BACK),
+    (P0, 1, MOVED),
+];
+
+/// Eight blocks of context, eight of an outbox, two others and the status word are copied, a block of a journal and three words of
+/// its line. Then processors look at the process, which has ended, and the byte is sent.
+const COPIED_BACK: [Row; 8] = [
+    (P0, 10, COPIED_0),
+    (I0, 1, NOTHING),
+    (P1, 12, COPIED_0),
+    (I0, 1, NOTHING),
+    (P0, 1, COPIED_0),
+    (P0, 1, LOOKED),
+    (P1, 1, LOOKED),
+    (LOSE_1, 1, LOST_1),
+];
+
+/// The byte and the counts of the line are those of memory 0 now, which has the one copy in service.
+const SENT_FROM_ONE: [Row; 3] = [(I0, 1, SENT), (I0, 1, MOVED), (I0, 1, NOTHING)];
+
+// A memory fails amid a flush, is repaired and copied unit by unit. Then the other fails, and nothing is lost.
+#[test]
+fn a_memory_is_copied_back(rt: HostRuntime) -> Result<(), Fail> {
+    let alloc = rt.alloc();
+    let parts: [&[Row]; 4] = [&HELLO_EXITS, &LOST_AMID_FLUSH, &COPIED_BACK, &SENT_FROM_ONE];
+    pair_scene(&rt, alloc, &parts, &[0x41], &[entry(0, 8)])
+}
+
+/// Process 0 goes on while memory 0 is down. Once it is repaired, processor 0, which runs the process, and processor 1, which seeks,
+/// copy units alike. The memory fails again meanwhile, and is copied from the first unit on.
+const COPIED_BY_BOTH: [Row; 13] = [
+    (P0, 2, MOVED),
+    (P0, 2, RAN),
+    (LOSE_0, 1, LOST_0),
+    (P0, 2, RAN),
+    (MEND_0, 1, MADE),
+    (P0, 3, COPIED_0),
+    (LOSE_0, 1, LOST_0),
+    (P0, 1, RAN),
+    (MEND_0, 1, MADE),
+    (P0, 20, COPIED_0),
+    (P1, 3, COPIED_0),
+    (P1, 1, LOOKED),
+    (P0, 2, RAN),
+];
+
+// A processor that runs copies a memory, and so does one that seeks.
+#[test]
+fn who_seeks_or_runs_copies(rt: HostRuntime) -> Result<(), Fail> {
+    let alloc = rt.alloc();
+    let goes_on: [Row; 2] = [(P0, 1, EXITS), (P0, 11, MOVED)];
+    let parts: [&[Row]; 5] = [
+        &COPIED_BY_BOTH,
+        &goes_on,
+        &HELLO_COMMITS,
+        &HELLO_AFTER,
+        &HELLO_SENDS,
+    ];
+    pair_scene(&rt, alloc, &parts, &[0x41], &[entry(0, 8)])
+}
+
+const EMPTY: [Row; 4] = [
+    (LOSE_2, 1, LOST_2),
+    (MEND_2, 1, MADE),
+    (P0, 1, COPIED_2),
+    (P0, 1, MOVED),
+];
+
+// A memory that keeps nothing is in service after one turn.
+#[test]
+fn an_empty_memory_is_back_at_once(rt: HostRuntime) -> Result<(), Fail> {
+    let alloc = rt.alloc();
+    let desc = without_units(alloc)?;
+    first_scene(&rt, alloc, desc, false, &[&EMPTY], &[], &[])
+}
+
+/// A machine check: this element stopped, and that stood against it.
+const fn check(stopped: Element, blocker: Blocker) -> Outcome {
+    Err(Stop::Check(stopped, blocker))
+}
+
+// A processor fails while a memory is down. One that is down doesn't.
+#[test]
+fn a_processor_without_a_memory(rt: HostRuntime) -> Result<(), Fail> {
+    let alloc = rt.alloc();
+    let stopped = Element::Processor(Pe(0));
+    let rows: [Row; 5] = [
+        (FAIL_1, 1, STOPPED_1),
+        (LOSE_1, 1, LOST_1),
+        (FAIL_1, 1, MADE),
+        (P0, 2, MOVED),
+        (FAIL_0, 1, check(stopped, Blocker::Memory(Me(1)))),
+    ];
+    pair_scene(&rt, alloc, &[&rows], &[], &[])
+}
+
+// A memory fails while the other is copied.
+#[test]
+fn a_memory_without_the_other(rt: HostRuntime) -> Result<(), Fail> {
+    let alloc = rt.alloc();
+    let stopped = Element::Memory(Me(1));
+    let rows: [Row; 4] = [
+        (LOSE_0, 1, LOST_0),
+        (MEND_0, 1, MADE),
+        (P1, 22, COPIED_0),
+        (LOSE_1, 1, check(stopped, Blocker::Memory(Me(0)))),
+    ];
+    pair_scene(&rt, alloc, &[&rows], &[], &[])
+}
+
+// A memory fails while a process awaits recovery.
+#[test]
+fn a_memory_without_a_process(rt: HostRuntime) -> Result<(), Fail> {
+    let alloc = rt.alloc();
+    let stopped = Element::Memory(Me(0));
+    let rows: [Row; 3] = [
+        (FAIL_0, 1, STOPPED_0),
+        (P1, 3, MOVED),
+        (LOSE_0, 1, check(stopped, Blocker::Process(Pid(0)))),
+    ];
+    pair_scene(&rt, alloc, &[&HELLO_EXITS, &rows], &[], &[])
+}
+
+// Memories fail in turn, amid whatever processors are about, and are repaired and copied. The sum is right, and each step is
+// committed once.
+#[test]
+fn both_count_through_lost_memories(rt: HostRuntime) -> Result<(), Fail> {
+    let alloc = rt.alloc();
+    let cycle: [(&[Event], u32); 8] = [
+        (&[P1, P0, I0], 83),
+        (&[LOSE_0], 1),
+        (&[P0, P1, I0], 31),
+        (&[MEND_0], 1),
+        (&[P0, P1, P1, I1], 97),
+        (&[LOSE_1, P0, P1], 1),
+        (&[MEND_1, I0, P0], 1),
+        (&[P1, P0, I1], 101),
+    ];
+    counting_in_cycles(&rt, alloc, &[], &cycle, 100)
 }

@@ -1,6 +1,6 @@
 -- What stays and what comes where a word is cleared.
-use Rattle.std.proofs.Common.{◌≡◌, ◌≢◌, ◌⊎◌, inl, inr, ℕ, suc, ◌+◌, ◌*◌, ◌/◌, ◌%◌, ◌<◌, Bool, true, false, ◌&&◌, ◌==◌, nat_lt, length, Some, None, refl, sym, ap, ◌∙◌, subst, arith, eq-eqb}
-use Rattle.std.proofs.lemmas.Bool.{cases_Bool, cases_order, cond_both, cond-true, and_parts, and_from, eqb-true, ne_eqb, lt-ltb, not_from_false, false≢true, true≢false}
+use Rattle.std.proofs.Common.{◌≡◌, ◌≢◌, ◌⊎◌, inl, inr, ℕ, suc, ◌+◌, ◌*◌, ◌/◌, ◌%◌, ◌<◌, ◌≤◌, Bool, true, false, not, ◌&&◌, ◌==◌, length, Some, None, refl, sym, ap, ◌∙◌, subst, arith, eq-eqb}
+use Rattle.std.proofs.lemmas.Bool.{cases_Bool, cases_lt, cases_order, cond_both, cond-true, and_parts, and_from, eqb-true, ne_eqb, not_from_false, false≢true, true≢false}
 use Rattle.seq_words.specs.Masks.{has_bit}
 use Rattle.seq_words.specs.declared.description.MachineDesc.{MachineDesc}
 use Rattle.seq_layout.specs.Shapes.{shape_of, segment_extent}
@@ -11,8 +11,9 @@ use Rattle.seq_turns.specs.declared.recovery.Recovery.{Recovery}
 use Rattle.seq_turns.specs.Functions.{update_copy}
 use Rattle.seq_turns.specs.Machines.{Change, copies_after}
 use Rattle.seq_turns.specs.Reading.{context_of, write_word}
-use Rattle.seq_turns.specs.Recoveries.{names, is_shadow, is_left, first_left, left_above}
-use Rattle.seq_turns.proofs.Functions.{copy_same, copy_other, lowest_none, lowest_least}
+use Rattle.seq_turns.specs.Recoveries.{names, is_shadow, is_left, left_from}
+use Rattle.seq_turns.proofs.Functions.{copy_same, copy_other}
+use Rattle.seq_turns.proofs.LeftFrom.{left_none, left_least}
 use Rattle.seq_recover.specs.Stands.{AllServe, IsInArea, IsAreaEqual, NamesHeld, ClosingKnows, RecoveredKnows}
 use Rattle.seq_recover.proofs.Rows.{clears}
 
@@ -73,41 +74,68 @@ module _ (d : MachineDesc) (p : Copies) (q : ℕ) where
           (not_from_false _ (ap (has_bit (context_of d p q).held) (number_segment t c) ∙ free))
           (ap (λ x. names d p q x (is_shadow (number t c))) (number_segment t c) ∙ ap (names d p q t) (number_copy t c) ∙ is)
 
-  -- where none is left, all that name it are held
-  pub none_left : first_left d p q ≡ None → NamesHeld d p q
-  none_left none = record { each = λ t c below is. left_or_held t c is (lowest_none (is_left d p q) (2 * length d.segments) none (number t c) (number_few (length d.segments) t c below)) }
+  -- none is left behind the cursor
+  module _ (n : ℕ) (behind : (k : ℕ) → k < n → is_left d p q k ≡ false) where
+    -- where none is left from there on, all that name it are held
+    pub none_left : left_from d p q n ≡ None → NamesHeld d p q
+    none_left none = record {
+      each = λ t c below is. left_or_held t c is (elim (cases_lt (number t c) n) [
+        | inl lt ↦ behind (number t c) lt
+        | inr le ↦ left_none d p q n none (number t c) le (number_few (length d.segments) t c below)
+      ]);
+    }
+
+    out_below : (k : ℕ) → left_from d p q n ≡ Some k → (j : ℕ) → j < k → is_left d p q j ≡ false
+    out_below k found j lt = elim (cases_lt j n) [
+      | inl before ↦ behind j before
+      | inr le ↦ left_least d p q n k found j le lt
+    ]
 
   -- and so after the last that is left is cleared
-  module _ (k : ℕ) (found : first_left d p q ≡ Some k) (last : left_above d p q k ≡ None) where
+  module _ (n : ℕ) (behind : (k : ℕ) → k < n → is_left d p q k ≡ false) (k : ℕ) (found : left_from d p q n ≡ Some k) where
     abbrev after : Copies
     after = copies_after (clears d k) p
 
-    out_above : (j : ℕ) → j < 2 * length d.segments → k < j → is_left d p q j ≡ false
-    out_above j few lt = elim (cases_Bool (is_left d p q j)) [
-      | inl is ↦ absurd (false≢true (sym (lowest_none (λ i. nat_lt k i && is_left d p q i) (2 * length d.segments) last j few) ∙ and_from _ _ (lt-ltb k j lt) is))
+    -- the lock word that is cleared doesn't name it
+    gone : names d after q (k / 2) (is_shadow k) ≡ true → ⊥
+    gone is =
+        let here : after.word (segment_extent (shape_of d) (k / 2)) 0 (is_shadow k) ≡ 0 = copy_same p.word (segment_extent (shape_of d) (k / 2)) 0 (is_shadow k) 0 in
+        let parts = and_parts (serves (shape_of d) after (segment_extent (shape_of d) (k / 2)) (is_shadow k)) (after.word (segment_extent (shape_of d) (k / 2)) 0 (is_shadow k) == suc q) is in
+        let named : after.word (segment_extent (shape_of d) (k / 2)) 0 (is_shadow k) ≡ suc q = eqb-true (after.word (segment_extent (shape_of d) (k / 2)) 0 (is_shadow k)) (suc q) parts.1 in
+        omega (arith, here, named)
+
+    -- behind it none is left
+    pub behind_then : (j : ℕ) → j < k + 1 → is_left d after q j ≡ false
+    behind_then j lt = elim (cases_Bool (is_left d after q j)) [
+      | inl is ↦ absurd (still (and_parts (not (has_bit (context_of d after q).held (j / 2))) (names d after q (j / 2) (is_shadow j)) is) (cases_lt j k))
       | inr out ↦ out
     ]
+      where
+        still : (not (has_bit (context_of d after q).held (j / 2)) ≡ true) × (names d after q (j / 2) (is_shadow j) ≡ true) → (j < k) ⊎ (k ≤ j) → ⊥
+        still parts (inl lower) =
+            let free = ap (λ x. not (has_bit x.held (j / 2))) (sym (context_stays d p (segment_extent (shape_of d) (k / 2)) 0 (is_shadow k) q)) ∙ parts.0 in
+            let before : is_left d p q j ≡ true = and_from _ _ free (named_before d p (segment_extent (shape_of d) (k / 2)) 0 (is_shadow k) q (j / 2) (is_shadow j) parts.1) in
+            true≢false (sym before ∙ out_below n behind k found j lower)
+        still parts (inr le) =
+            let same : j ≡ k = omega (arith, lt, le) in
+            gone (subst (λ x. names d after q (x / 2) (is_shadow x) ≡ true) same parts.1)
 
     cleared : (t : ℕ) (c : Bool) → number t c ≡ k → names d after q t c ≡ true → ⊥
     cleared t c e is =
-        let extent : segment_extent (shape_of d) (k / 2) ≡ segment_extent (shape_of d) t = ap (segment_extent (shape_of d)) (ap (λ i. i / 2) (sym e) ∙ number_segment t c) in
+        let segment : k / 2 ≡ t = ap (λ i. i / 2) (sym e) ∙ number_segment t c in
         let copy : is_shadow k ≡ c = ap is_shadow (sym e) ∙ number_copy t c in
-        let here : after.word (segment_extent (shape_of d) (k / 2)) 0 (is_shadow k) ≡ 0 = copy_same p.word (segment_extent (shape_of d) (k / 2)) 0 (is_shadow k) 0 in
-        let zero : after.word (segment_extent (shape_of d) t) 0 c ≡ 0 = sym (λ i. after.word (extent i) 0 (copy i)) ∙ here in
-        let parts = and_parts (serves (shape_of d) after (segment_extent (shape_of d) t) c) (after.word (segment_extent (shape_of d) t) 0 c == suc q) is in
-        let named : after.word (segment_extent (shape_of d) t) 0 c ≡ suc q = eqb-true (after.word (segment_extent (shape_of d) t) 0 c) (suc q) parts.1 in
-        omega (arith, zero, named)
+        gone ((λ i. names d after q (segment i) (copy i)) ∙ is)
 
-    pub last_left : NamesHeld d after q
-    last_left = record { each = λ t c below is. ap (λ x. has_bit x.held t) (context_stays d p (segment_extent (shape_of d) (k / 2)) 0 (is_shadow k) q) ∙ left_or_held t c (before t c is) (out t c below is (cases_order (number t c) k)) }
+    pub last_left : left_from d p q (k + 1) ≡ None → NamesHeld d after q
+    last_left last = record { each = λ t c below is. ap (λ x. has_bit x.held t) (context_stays d p (segment_extent (shape_of d) (k / 2)) 0 (is_shadow k) q) ∙ left_or_held t c (before t c is) (out t c below is (cases_order (number t c) k)) }
       where
         before : (t : ℕ) (c : Bool) → names d after q t c ≡ true → names d p q t c ≡ true
         before t c is = named_before d p (segment_extent (shape_of d) (k / 2)) 0 (is_shadow k) q t c is
 
         out : (t : ℕ) (c : Bool) → t < length d.segments → names d after q t c ≡ true → (number t c ≡ k) ⊎ ((number t c < k) ⊎ (k < number t c)) → is_left d p q (number t c) ≡ false
         out t c below is (inl e) = absurd (cleared t c e is)
-        out t c below is (inr (inl lt)) = lowest_least (is_left d p q) (2 * length d.segments) k found (number t c) lt
-        out t c below is (inr (inr lt)) = out_above (number t c) (number_few (length d.segments) t c below) lt
+        out t c below is (inr (inl lt)) = out_below n behind k found (number t c) lt
+        out t c below is (inr (inr lt)) = left_none d p q (k + 1) last (number t c) (omega (arith, lt)) (number_few (length d.segments) t c below)
 
 -- the turns of Closing
 module _ (d : MachineDesc) (p : Copies) (r : Recovery Closing) (serve : AllServe (shape_of d) p) (knows : ClosingKnows d p r) where

@@ -1,6 +1,6 @@
 -- What the states of a recovery know survives what other elements write.
 use Rattle.std.proofs.Math.Path.{fun_ext}
-use Rattle.std.proofs.Common.{◌≡◌, ◌≢◌, ◌⊎◌, inl, inr, ℕ, zero, suc, ◌<◌, Bool, true, false, not, ◌&&◌, ◌==◌, cond, List, [], ◌++◌, length, map, slice_get, Some, refl, sym, ap, ◌∙◌, subst}
+use Rattle.std.proofs.Common.{◌≡◌, ◌≢◌, ◌⊎◌, inl, inr, ℕ, zero, suc, ◌/◌, ◌<◌, Bool, true, false, not, ◌&&◌, ◌==◌, cond, List, [], ◌++◌, length, map, slice_get, Some, refl, sym, ap, ◌∙◌, subst}
 use Rattle.std.specs.List.{range_with_len}
 use Rattle.std.proofs.lemmas.Bool.{cases_eq, ne_eqb, true≢false, false≢true}
 use Rattle.seq_words.specs.Masks.{has_bit}
@@ -18,7 +18,7 @@ use Rattle.seq_turns.specs.declared.recovery.Locks.{Locks}
 use Rattle.seq_turns.specs.declared.recovery.Closing.{Closing}
 use Rattle.seq_turns.specs.declared.recovery.Recovery.{Recovery}
 use Rattle.seq_turns.specs.Reading.{context_of, context_in}
-use Rattle.seq_turns.specs.Recoveries.{names, blocks_in, blocks_below, recovered_blocks}
+use Rattle.seq_turns.specs.Recoveries.{names, blocks_in, blocks_below, recovered_blocks, is_shadow}
 use Rattle.seq_recover.specs.Stands.{IsInArea, IsAreaEqual, NamesHeld, CopyingKnows, LocksKnows, ClosingKnows, RecoveredKnows}
 use Rattle.seq_recover.specs.Survive.{CopyingSurvives, LocksSurvives, ClosingSurvives, RecoveredSurvives}
 use Rattle.seq_recover.proofs.Listed.{in_listed}
@@ -134,7 +134,10 @@ copying_survives d r = record {
 }
 
 locks_alike : (d : MachineDesc) (r : Recovery Locks) (p now : Copies) → AreAlike d r.pid.0 p now → LocksKnows d p r → LocksKnows d now r
-locks_alike d r p now alike known = record { area = area_alike d r.pid.0 p now alike known.area }
+locks_alike d r p now alike known = record {
+  area = area_alike d r.pid.0 p now alike known.area;
+  behind = λ k lt. (λ i. not (has_bit (alike.context i).held (k / 2)) && alike.named (k / 2) (is_shadow k) i) ∙ known.behind k lt;
+}
 
 pub locks_survives : LocksSurvives
 locks_survives d r = record {

@@ -17,7 +17,7 @@ use Rattle.seq_turns.specs.declared.hand.Hand.TheVariants.{Recovering, Seek}
 use Rattle.seq_turns.specs.Machines.{Machine, Change, Move, copies_after}
 use Rattle.seq_turns.specs.Reading.{write_word}
 use Rattle.seq_turns.specs.Operations.{goes}
-use Rattle.seq_turns.specs.Recoveries.{recovery_word, into_stage, claimed_move, recovered_blocks, copied_over, copying_move, is_shadow, first_left, left_above, after_clearing, locks_cleared, locks_move, closing_move}
+use Rattle.seq_turns.specs.Recoveries.{recovery_word, into_stage, claimed_move, recovered_blocks, copied_over, copying_move, is_shadow, left_from, after_clearing, locks_cleared, locks_move, closing_move}
 use Rattle.seq_recover.specs.Rows.{IsRow, holding}
 
 -- a row that is this move, whatever the machine
@@ -43,18 +43,18 @@ copied_next d p q r more after =
     let change : Change = copied_over d p r.forward (slice_get (recovered_blocks d p r.pid.0) r.cursor) in
     row_is p q _ _ change (λ m i. ap (λ (x : RecoveryAt). goes (holding p m) i change (Recovering x)) (cond-false _ _ _ more)) after
 
-pub cleared_none : (d : MachineDesc) (p q : Copies) (r : Recovery Locks) → first_left d p r.pid.0 ≡ None → q ≡ p → IsRow p q (Recovering (at.Closing (into_stage r (record {})))) (λ m i. locks_move d m i r)
+pub cleared_none : (d : MachineDesc) (p q : Copies) (r : Recovery Locks) → left_from d p r.pid.0 r.cursor ≡ None → q ≡ p → IsRow p q (Recovering (at.Closing (into_stage r (record {})))) (λ m i. locks_move d m i r)
 cleared_none d p q r none after = row_is p q _ _ Unchanged (λ m i. ap (locks_cleared d (holding p m) i r) none) after
 
 -- the change that clears a lock word
 abbrev pub clears : MachineDesc → ℕ → Change
 clears d k = To_word (segment_extent (shape_of d) (k / 2)) 0 (is_shadow k) 0
 
-pub cleared_next : (d : MachineDesc) (p q : Copies) (r : Recovery Locks) (k j : ℕ) → first_left d p r.pid.0 ≡ Some k → left_above d p r.pid.0 k ≡ Some j → q ≡ copies_after (clears d k) p → IsRow p q (Recovering (at.Locks (record r { cursor = r.cursor + 1 }))) (λ m i. locks_move d m i r)
-cleared_next d p q r k j found more after = row_is p q _ _ (clears d k) (λ m i. ap (locks_cleared d (holding p m) i r) found ∙ ap (λ o. goes (holding p m) i (clears d k) (Recovering (after_clearing r o))) more) after
+pub cleared_next : (d : MachineDesc) (p q : Copies) (r : Recovery Locks) (k j : ℕ) → left_from d p r.pid.0 r.cursor ≡ Some k → left_from d p r.pid.0 (k + 1) ≡ Some j → q ≡ copies_after (clears d k) p → IsRow p q (Recovering (at.Locks (record r { cursor = k + 1 }))) (λ m i. locks_move d m i r)
+cleared_next d p q r k j found more after = row_is p q _ _ (clears d k) (λ m i. ap (locks_cleared d (holding p m) i r) found ∙ ap (λ o. goes (holding p m) i (clears d k) (Recovering (after_clearing r k o))) more) after
 
-pub cleared_last : (d : MachineDesc) (p q : Copies) (r : Recovery Locks) (k : ℕ) → first_left d p r.pid.0 ≡ Some k → left_above d p r.pid.0 k ≡ None → q ≡ copies_after (clears d k) p → IsRow p q (Recovering (at.Closing (into_stage r (record {})))) (λ m i. locks_move d m i r)
-cleared_last d p q r k found none after = row_is p q _ _ (clears d k) (λ m i. ap (locks_cleared d (holding p m) i r) found ∙ ap (λ o. goes (holding p m) i (clears d k) (Recovering (after_clearing r o))) none) after
+pub cleared_last : (d : MachineDesc) (p q : Copies) (r : Recovery Locks) (k : ℕ) → left_from d p r.pid.0 r.cursor ≡ Some k → left_from d p r.pid.0 (k + 1) ≡ None → q ≡ copies_after (clears d k) p → IsRow p q (Recovering (at.Closing (into_stage r (record {})))) (λ m i. locks_move d m i r)
+cleared_last d p q r k found none after = row_is p q _ _ (clears d k) (λ m i. ap (locks_cleared d (holding p m) i r) found ∙ ap (λ o. goes (holding p m) i (clears d k) (Recovering (after_clearing r k o))) none) after
 
 pub closed_first : (d : MachineDesc) (p q : Copies) (r : Recovery Closing) → r.cursor ≡ 0 → q ≡ copies_after (write_word d p r.pid.0 0 true 0) p → IsRow p q (Recovering (at.Closing (record r { cursor = 1 }))) (λ m i. closing_move d m i r)
 closed_first d p q r zero after = row_is p q _ _ _ (λ m i. cond-true (r.cursor == 0) _ _ (eq-eqb r.cursor 0 zero)) after

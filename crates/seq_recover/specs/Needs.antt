@@ -28,7 +28,7 @@ pub record CopyingNeeds (d : MachineDesc) (r : Recovery Copying) : Type 0 where
   pub process : r.pid.0 < length d.processes
   pub cursor : r.cursor ≤ sum (blocks_of d)
 
--- Locks: no more turns were taken than there are lock words, and the context says which segments the process holds
+-- Locks: the cursor is at most behind the last lock word, and the context says which segments the process holds
 pub record LocksNeeds (d : MachineDesc) (p : Copies) (r : Recovery Locks) : Type 0 where
   pub process : r.pid.0 < length d.processes
   pub cursor : r.cursor ≤ 2 * length d.segments

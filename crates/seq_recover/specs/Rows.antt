@@ -1,5 +1,5 @@
 -- The turns of a recovery beside the rows of the machine's table.
-use Rattle.std.specs.Prelude.{◌≡◌, ℕ, ◌*◌, false, ◌&&◌, nat_le, if◌then◌else◌, List, [], length, Option}
+use Rattle.std.specs.Prelude.{◌≡◌, ℕ, false, if◌then◌else◌, List, []}
 use Rattle.seq_words.specs.declared.description.MachineDesc.{MachineDesc}
 use Rattle.seq_layout.specs.declared.extents.Extent.{Extent}
 use Rattle.seq_layout.specs.Shapes.{shape_of, segment_extent}
@@ -15,9 +15,8 @@ use Rattle.seq_turns.specs.declared.recovery.Recovery.{Recovery}
 use Rattle.seq_turns.specs.declared.recovery.RecoveryAt.TheVariants as at
 use Rattle.seq_turns.specs.declared.hand.Hand.{Hand}
 use Rattle.seq_turns.specs.declared.hand.Hand.TheVariants.{Recovering, Seek}
-use Rattle.seq_turns.specs.Functions.{lowest}
 use Rattle.seq_turns.specs.Machines.{Machine, Move, copies_after}
-use Rattle.seq_turns.specs.Recoveries.{names, blocks_in, is_left}
+use Rattle.seq_turns.specs.Recoveries.{names, blocks_in}
 
 -- what a processor is about after a turn of Claimed, of Copying, of Locks and of Closing
 abbrev pub after_claimed : Step (Recovery Claimed) (Recovery Copying) → Hand
@@ -53,7 +52,3 @@ block_of b = (b.0.0, b.1)
 -- the blocks of a segment that a recovery of process q copies
 abbrev pub named_blocks : MachineDesc → Copies → ℕ → ℕ → List (ℕ × ℕ)
 named_blocks d p q t = if names d p q t false then blocks_in d (segment_extent (shape_of d) t) else []
-
--- the lowest lock word from a number on that is to be cleared
-abbrev pub left_from : MachineDesc → Copies → ℕ → ℕ → Option ℕ
-left_from d p q k = lowest (λ j. nat_le k j && is_left d p q j) (2 * length d.segments)

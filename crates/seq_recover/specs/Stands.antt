@@ -9,7 +9,7 @@ use Rattle.seq_turns.specs.declared.recovery.Locks.{Locks}
 use Rattle.seq_turns.specs.declared.recovery.Closing.{Closing}
 use Rattle.seq_turns.specs.declared.recovery.Recovery.{Recovery}
 use Rattle.seq_turns.specs.Reading.{context_of}
-use Rattle.seq_turns.specs.Recoveries.{names, recovered_blocks}
+use Rattle.seq_turns.specs.Recoveries.{names, recovered_blocks, is_left}
 
 -- both copies of every extent are in service
 abbrev pub AllServe : Shape → Copies → Type 0
@@ -35,9 +35,10 @@ pub record NamesHeld (d : MachineDesc) (p : Copies) (q : ℕ) : Type 0 where
 pub record CopyingKnows (d : MachineDesc) (p : Copies) (r : Recovery Copying) : Type 0 where
   pub behind : (k : ℕ) (b : ℕ × ℕ) → k < r.cursor → slice_get (recovered_blocks d p r.pid.0) k ≡ Some b → IsEqual p b.0 b.1
 
--- Locks: the area is equal on both copies
+-- Locks: the area is equal on both copies, and no lock word behind the cursor is left to be cleared
 pub record LocksKnows (d : MachineDesc) (p : Copies) (r : Recovery Locks) : Type 0 where
   pub area : IsAreaEqual d p r.pid.0
+  pub behind : (k : ℕ) → k < r.cursor → is_left d p r.pid.0 k ≡ false
 
 -- Closing: so it is, no lock word names the process but those of segments that it holds, and the shadow of its status word is
 -- Idle after the first turn

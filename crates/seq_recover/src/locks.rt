@@ -7,9 +7,9 @@ ghost use Rattle.seq_io.specs.Changes.Change.{To_word};
 ghost use Rattle.seq_status.specs.declared.step.Step.TheVariants.{Again, Next};
 ghost use Rattle.seq_turns.specs.Machines.{copies_after};
 ghost use Rattle.seq_turns.specs.Reading.{context_of};
-ghost use Rattle.seq_turns.specs.Recoveries.{is_shadow, is_left, locks_move};
+ghost use Rattle.seq_turns.specs.Recoveries.{is_shadow, is_left, left_from, locks_move};
 ghost use Rattle.seq_recover.specs.Needs.{HasContext, LocksNeeds};
-ghost use Rattle.seq_recover.specs.Rows.{IsRow, after_locks, left_from};
+ghost use Rattle.seq_recover.specs.Rows.{IsRow, after_locks};
 ghost use Rattle.seq_recover.specs.Stands.{LocksKnows, ClosingKnows};
 
 use crate::words::{lock_word, names};
@@ -95,7 +95,8 @@ fn clear(k: u8, memories: &mut Memories, layout: &Layout, desc: &MachineDesc)
     layout.write_word(memories, at, k % 2 == 0, 0);
 }
 
-/// Clears the next lock word that names the process and whose segment its context doesn't hold, of each segment first the shadow.
+/// Clears the next lock word from the cursor on that names the process and whose segment its context doesn't hold, of each segment
+/// first the shadow. The cursor is behind it then.
 /// The turn that clears the last one moves on, and so does a turn that finds none and changes nothing.
 pub fn lock_turn(
     recovery: Recovery<Locks>,
@@ -120,14 +121,21 @@ pub fn lock_turn(
         stage: Closing,
     };
     let held = held(recovery.pid, memories, layout, desc);
-    let Some(k) = left_from(0, held, recovery.pid, memories, layout, desc) else {
+    let Some(k) = left_from(
+        recovery.cursor as u8,
+        held,
+        recovery.pid,
+        memories,
+        layout,
+        desc,
+    ) else {
         return Step::Next(closing);
     };
     let more = left_from(k + 1, held, recovery.pid, memories, layout, desc).is_some();
     clear(k, memories, layout, desc);
     if more {
         Step::Again(Recovery {
-            cursor: recovery.cursor + 1,
+            cursor: u32::from(k) + 1,
             ..recovery
         })
     } else {

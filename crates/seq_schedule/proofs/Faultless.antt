@@ -1,16 +1,20 @@
 -- The items of a faultless text violate no rule, are built, and there are no more of them than lines may be.
-use Rattle.std.proofs.Common.{◌≡◌, ℕ, ◌+◌, ◌≤◌, Bool, true, false, cond, eqb, Option, Some, None, List, [], ◌∷◌, ◌++◌, length, length-append, arith}
+use Rattle.std.proofs.Common.{◌≡◌, ℕ, ◌+◌, ◌≤◌, Bool, true, false, cond, eqb, Option, Some, None, List, [], ◌∷◌, ◌++◌, length, length-append, refl, subst, arith}
 use Rattle.std.specs.List.{All}
-use Rattle.std.specs.Prelude.{slice_index}
+use Rattle.std.specs.Prelude.{slice_index, nat_le, ◌&&◌, take, drop, codes}
+use Rattle.std.specs.Str.{bytes_eq}
 use Rattle.std.specs.Option.{option_map}
-use Rattle.std.proofs.lemmas.Bool.{ltb-false}
+use Rattle.std.proofs.lemmas.Bool.{ltb-false, leb-true, and_parts}
 use Rattle.std.proofs.lemmas.List.Elements.{All-nil, All-cons, All-append}
 use Rattle.seq_words.specs.declared.names.LineNo.{LineNo}
 use Rattle.seq_words.specs.declared.kinds.Element.{Element}
 use Rattle.seq_words.specs.declared.kinds.Element.TheVariants as elements
 use Rattle.seq_words.specs.declared.events.Event.TheVariants as events
 use Rattle.seq_words.specs.declared.description.MachineDesc.{MachineDesc}
-use Rattle.seq_words.specs.Names.{element_named}
+use Rattle.seq_words.specs.Names.{element_named, half_named}
+use Rattle.seq_words.specs.declared.half.Half.{Half}
+use Rattle.seq_words.specs.declared.names.Pe.{Pe}
+use Rattle.seq_text.specs.Numbers.{number_of}
 use Rattle.seq_text.specs.Words.{words_of}
 use Rattle.seq_schedule.specs.declared.script.Script.{Script}
 use Rattle.seq_schedule.specs.declared.script.Script.TheVariants as scripts
@@ -22,11 +26,11 @@ use Rattle.seq_schedule.specs.declared.forms.Gate.TheVariants.{Built}
 use Rattle.seq_schedule.specs.declared.lines.Said.{Said}
 use Rattle.seq_schedule.specs.declared.lines.Said.TheVariants.{Passed, Unbuilt, NoForm, Malformed, Says}
 use Rattle.seq_schedule.specs.Limits.{most_lines, most_times}
-use Rattle.seq_schedule.specs.Numbers.{number_within, line_named, bytes_of}
+use Rattle.seq_schedule.specs.Numbers.{if_within, number_within, line_named, bytes_of, mask_of}
 use Rattle.seq_schedule.specs.Forms.{form_named, is_built}
-use Rattle.seq_schedule.specs.Said.{with_one, with_two, said_by, turn_of, turn_said, turns_of, turns_said, round_said, finish_said, input_of, input_said, close_said, fail_of, fail_said, repair_of, repair_said, form_said, taken_said, said}
+use Rattle.seq_schedule.specs.Said.{with_one, with_two, with_four, said_by, turn_of, turn_said, turns_of, turns_said, round_said, finish_said, input_of, input_said, close_said, fail_of, fail_said, repair_of, repair_said, strike_of, upset_of, upset_said, form_said, taken_said, said}
 use Rattle.seq_schedule.specs.Rules.{Past, past, rule_of, place_rule, line_rule, with_said, fault_from, item_at, items_from}
-use Rattle.seq_schedule.specs.Faultless.{IsBuiltScript, FollowRules}
+use Rattle.seq_schedule.specs.Faultless.{MayBeStruck, IsBuiltScript, FollowRules}
 use Rattle.seq_schedule.proofs.Ranges.{cond-none, first-none}
 use Rattle.seq_schedule.proofs.There.{no_fault}
 
@@ -68,6 +72,14 @@ two_built say (a ∷ []) h = tt
 two_built say (a ∷ b ∷ []) h = h a b
 two_built say (a ∷ b ∷ c ∷ words) h = tt
 
+four_built : (say : List ℕ → List ℕ → List ℕ → List ℕ → Said) (words : List (List ℕ)) → ((a b c d : List ℕ) → SaysBuilt (say a b c d)) → SaysBuilt (with_four say words)
+four_built say [] h = tt
+four_built say (a ∷ []) h = tt
+four_built say (a ∷ b ∷ []) h = tt
+four_built say (a ∷ b ∷ c ∷ []) h = tt
+four_built say (a ∷ b ∷ c ∷ d ∷ []) h = h a b c d
+four_built say (a ∷ b ∷ c ∷ d ∷ e ∷ words) h = tt
+
 by_built : {A : Type 0} (script : A → Script) (o : Option A) → ((a : A) → IsBuiltScript (script a)) → SaysBuilt (said_by (option_map script o))
 by_built script None h = tt
 by_built script (Some a) h = h a
@@ -84,17 +96,34 @@ turns_built (Some (elements.Processor p)) n = by_built (λ n. scripts.Turns (ele
 turns_built (Some (elements.Memory m)) n = tt
 turns_built (Some (elements.Io i)) n = by_built (λ n. scripts.Turns (elements.Io i) n) n (λ n. tt)
 
-fail_built : (e : Option Element) → SaysBuilt (fail_of Built e)
+fail_built : (e : Option Element) → SaysBuilt (fail_of e)
 fail_built None = tt
-fail_built (Some (elements.Processor p)) = tt
-fail_built (Some (elements.Memory m)) = tt
-fail_built (Some (elements.Io i)) = tt
+fail_built (Some e) = tt
 
-repair_built : (e : Option Element) → SaysBuilt (repair_of Built e)
+repair_built : (e : Option Element) → SaysBuilt (repair_of e)
 repair_built None = tt
-repair_built (Some (elements.Processor p)) = tt
-repair_built (Some (elements.Memory m)) = tt
-repair_built (Some (elements.Io i)) = tt
+repair_built (Some e) = tt
+
+-- a number that lies between two others
+within : (least most : ℕ) (o : Option ℕ) (n : ℕ) → if_within least most o ≡ Some n → (least ≤ n) × (n ≤ most)
+within least most None n e = absurd cc
+within least most (Some k) n e = go (nat_le least k && nat_le k most) refl e
+  where
+    go : (b : Bool) → (nat_le least k && nat_le k most) ≡ b → cond b (Some k) None ≡ Some n → (least ≤ n) × (n ≤ most)
+    go true t is = (let same : k ≡ n = cc in let both = and_parts _ _ t in subst (λ x. (least ≤ x) × (x ≤ most)) same (leb-true _ _ both.0, leb-true _ _ both.1))
+    go false f is = absurd cc
+
+strike_built : (p : Pe) (h : Half) (r mask : Option ℕ) → ((n : ℕ) → r ≡ Some n → MayBeStruck n) → SaysBuilt (strike_of p h r mask)
+strike_built p h None mask is = tt
+strike_built p h (Some r) None is = tt
+strike_built p h (Some r) (Some mask) is = is r refl
+
+upset_built : (e : Option Element) (h : Option Half) (r mask : Option ℕ) → ((n : ℕ) → r ≡ Some n → MayBeStruck n) → SaysBuilt (upset_of e h r mask)
+upset_built None h r mask is = tt
+upset_built (Some (elements.Memory m)) h r mask is = tt
+upset_built (Some (elements.Io i)) h r mask is = tt
+upset_built (Some (elements.Processor p)) None r mask is = tt
+upset_built (Some (elements.Processor p)) (Some h) r mask is = strike_built p h r mask is
 
 input_built : (l : Option LineNo) (bytes : Option (List ℕ)) → SaysBuilt (input_of l bytes)
 input_built None bytes = tt
@@ -125,15 +154,29 @@ close_said_built : (a : List ℕ) → SaysBuilt (close_said a)
 unfolding close_said
 close_said_built a = by_built (λ l. scripts.One (events.Close l)) (line_named a) (λ l. tt)
 
-fail_said_built : (a : List ℕ) → SaysBuilt (fail_said Built a)
+fail_said_built : (a : List ℕ) → SaysBuilt (fail_said a)
 unfolding fail_said
 fail_said_built a = fail_built (element_named a)
 
-repair_said_built : (a : List ℕ) → SaysBuilt (repair_said Built a)
+repair_said_built : (a : List ℕ) → SaysBuilt (repair_said a)
 unfolding repair_said
 repair_said_built a = repair_built (element_named a)
 
-form_built : (form : Form) (words : List (List ℕ)) → SaysBuilt (cond (is_built form) (form_said Built form words) Unbuilt)
+register_within : (word : List ℕ) (n : ℕ) → number_within 1 32 word ≡ Some n → MayBeStruck n
+unfolding number_within
+register_within word n e = within 1 32 (number_of word) n e
+
+if_form : (b : Bool) (x : Said) → SaysBuilt x → SaysBuilt (cond b x NoForm)
+if_form true x h = h
+if_form false x h = tt
+
+upset_said_built : (a b c d : List ℕ) → SaysBuilt (upset_said a b c d)
+unfolding upset_said
+upset_said_built a b c d =
+    if_form (bytes_eq (take 2 d) (codes "0x")) (upset_of (element_named a) (half_named b) (number_within 1 32 c) (mask_of (drop 2 d)))
+    (upset_built (element_named a) (half_named b) (number_within 1 32 c) (mask_of (drop 2 d)) (register_within c))
+
+form_built : (form : Form) (words : List (List ℕ)) → SaysBuilt (cond (is_built form) (form_said form words) Unbuilt)
 unfolding form_said
 form_built forms.Turn words = one_built turn_said words turn_said_built
 form_built forms.Turns words = two_built turns_said words turns_said_built
@@ -141,9 +184,9 @@ form_built forms.Round words = one_built round_said words round_said_built
 form_built forms.Finish words = one_built finish_said words finish_said_built
 form_built forms.Input words = two_built input_said words input_said_built
 form_built forms.Close words = one_built close_said words close_said_built
-form_built forms.Fail words = one_built (fail_said Built) words fail_said_built
-form_built forms.Repair words = one_built (repair_said Built) words repair_said_built
-form_built forms.Upset words = tt
+form_built forms.Fail words = one_built fail_said words fail_said_built
+form_built forms.Repair words = one_built repair_said words repair_said_built
+form_built forms.Upset words = four_built upset_said words upset_said_built
 form_built forms.Hangup words = tt
 
 taken_built : (form : Option Form) (words : List (List ℕ)) → SaysBuilt (taken_said Built form words)

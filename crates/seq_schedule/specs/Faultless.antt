@@ -12,21 +12,19 @@ use Rattle.seq_schedule.specs.declared.forms.Gate.TheVariants.{Built}
 use Rattle.seq_schedule.specs.Limits.{most_lines}
 use Rattle.seq_schedule.specs.Rules.{past, rule_of, first_fault, items_of}
 
--- an element whose failures the machine makes: a processor
-abbrev pub IsBuiltElement : Element → Type 0
-IsBuiltElement (elements.Processor p) = Unit {0}
-IsBuiltElement (elements.Memory m) = ⊥
-IsBuiltElement (elements.Io i) = ⊥
+-- the registers that may be struck: x1 to x31 by their numbers, and pc as 32
+abbrev pub MayBeStruck : ℕ → Type 0
+MayBeStruck r = (1 ≤ r) × (r ≤ 32)
 
--- an event that a line says by itself, and that the machine makes: a turn, the end of an input, a processor's failure or repair
+-- an event that a line says by itself, and that the machine makes: a turn, the end of an input, a failure or repair, a strike
 abbrev pub IsBuiltEvent : Event → Type 0
 IsBuiltEvent (events.Processor p) = Unit {0}
 IsBuiltEvent (events.Io i) = Unit {0}
 IsBuiltEvent (events.Close l) = Unit {0}
 IsBuiltEvent (events.Input l byte) = ⊥
-IsBuiltEvent (events.Fail e) = IsBuiltElement e
-IsBuiltEvent (events.Repair e) = IsBuiltElement e
-IsBuiltEvent (events.Upset p h r mask) = ⊥
+IsBuiltEvent (events.Fail e) = Unit {0}
+IsBuiltEvent (events.Repair e) = Unit {0}
+IsBuiltEvent (events.Upset p h r mask) = MayBeStruck r
 IsBuiltEvent (events.Hangup l) = ⊥
 
 -- an element that takes turns

@@ -1,8 +1,6 @@
 -- The forms of lines, by their first words.
 use Rattle.std.specs.Prelude.{ℕ, Bool, true, false, if◌then◌else◌, codes, Option, Some, None, List}
 use Rattle.std.specs.Str.{bytes_eq}
-use Rattle.seq_words.specs.declared.kinds.Element.{Element}
-use Rattle.seq_words.specs.declared.kinds.Element.TheVariants as elements
 use Rattle.seq_schedule.specs.declared.forms.Form.{Form}
 use Rattle.seq_schedule.specs.declared.forms.Form.TheVariants.{Turn, Turns, Round, Finish, Input, Close, Fail, Repair, Upset, Hangup}
 use Rattle.seq_schedule.specs.declared.forms.Gate.{Gate}
@@ -28,7 +26,7 @@ form_named word =
     else if bytes_eq word (codes "close") then Some Close
     else failure_named word
 
--- the machine runs what lines of this form say, of some element at least: all but strikes and hangups
+-- the machine runs what lines of this form say: all but hangups
 abbrev pub is_built : Form → Bool
 is_built Turn = true
 is_built Turns = true
@@ -38,17 +36,10 @@ is_built Input = true
 is_built Close = true
 is_built Fail = true
 is_built Repair = true
-is_built Upset = false
+is_built Upset = true
 is_built Hangup = false
 
 -- lines of this form are taken
 abbrev pub is_taken : Gate → Form → Bool
 is_taken Built form = is_built form
 is_taken Open form = true
-
--- failures and repairs of this element are taken: behind the gate those of processors alone
-abbrev pub may_fail : Gate → Element → Bool
-may_fail Built (elements.Processor p) = true
-may_fail Built (elements.Memory m) = false
-may_fail Built (elements.Io i) = false
-may_fail Open e = true

@@ -17,7 +17,7 @@ use Rattle.seq_schedule.specs.declared.forms.Gate.{Gate}
 use Rattle.seq_schedule.specs.declared.lines.Said.{Said}
 use Rattle.seq_schedule.specs.declared.lines.Said.TheVariants.{Passed, Unbuilt, NoForm, Malformed, Says}
 use Rattle.seq_schedule.specs.Limits.{most_times}
-use Rattle.seq_schedule.specs.Forms.{form_named, is_taken, may_fail}
+use Rattle.seq_schedule.specs.Forms.{form_named, is_taken}
 use Rattle.seq_schedule.specs.Numbers.{number_within, line_named, mask_of, bytes_of}
 
 -- a form with so many words behind its first
@@ -83,21 +83,21 @@ close_said l = said_by (option_map (λ l. scripts.One (events.Close l)) (line_na
 unfoldable pub hangup_said : List ℕ → Said
 hangup_said l = said_by (option_map (λ l. scripts.One (events.Hangup l)) (line_named l))
 
--- fail E, of an element whose failures are taken
-abbrev pub fail_of : Gate → Option Element → Said
-fail_of gate None = NoForm
-fail_of gate (Some e) = if may_fail gate e then Says (scripts.One (events.Fail e)) else Unbuilt
+-- fail E
+abbrev pub fail_of : Option Element → Said
+fail_of None = NoForm
+fail_of (Some e) = Says (scripts.One (events.Fail e))
 
-unfoldable pub fail_said : Gate → List ℕ → Said
-fail_said gate e = fail_of gate (element_named e)
+unfoldable pub fail_said : List ℕ → Said
+fail_said e = fail_of (element_named e)
 
--- repair E, likewise
-abbrev pub repair_of : Gate → Option Element → Said
-repair_of gate None = NoForm
-repair_of gate (Some e) = if may_fail gate e then Says (scripts.One (events.Repair e)) else Unbuilt
+-- repair E
+abbrev pub repair_of : Option Element → Said
+repair_of None = NoForm
+repair_of (Some e) = Says (scripts.One (events.Repair e))
 
-unfoldable pub repair_said : Gate → List ℕ → Said
-repair_said gate e = repair_of gate (element_named e)
+unfoldable pub repair_said : List ℕ → Said
+repair_said e = repair_of (element_named e)
 
 -- upset pK H R 0xMASK
 abbrev pub strike_of : Pe → Half → Option ℕ → Option ℕ → Said
@@ -118,22 +118,22 @@ upset_said p h r mask =
     then upset_of (element_named p) (half_named h) (number_within 1 32 r) (mask_of (drop 2 mask)) else NoForm
 
 -- what the words behind the first say in a line of this form
-unfoldable pub form_said : Gate → Form → List (List ℕ) → Said
-form_said gate forms.Turn words = with_one turn_said words
-form_said gate forms.Turns words = with_two turns_said words
-form_said gate forms.Round words = with_one round_said words
-form_said gate forms.Finish words = with_one finish_said words
-form_said gate forms.Input words = with_two input_said words
-form_said gate forms.Close words = with_one close_said words
-form_said gate forms.Fail words = with_one (fail_said gate) words
-form_said gate forms.Repair words = with_one (repair_said gate) words
-form_said gate forms.Upset words = with_four upset_said words
-form_said gate forms.Hangup words = with_one hangup_said words
+unfoldable pub form_said : Form → List (List ℕ) → Said
+form_said forms.Turn words = with_one turn_said words
+form_said forms.Turns words = with_two turns_said words
+form_said forms.Round words = with_one round_said words
+form_said forms.Finish words = with_one finish_said words
+form_said forms.Input words = with_two input_said words
+form_said forms.Close words = with_one close_said words
+form_said forms.Fail words = with_one fail_said words
+form_said forms.Repair words = with_one repair_said words
+form_said forms.Upset words = with_four upset_said words
+form_said forms.Hangup words = with_one hangup_said words
 
 -- the same where the form is taken
 abbrev pub taken_said : Gate → Option Form → List (List ℕ) → Said
 taken_said gate None words = NoForm
-taken_said gate (Some form) words = if is_taken gate form then form_said gate form words else Unbuilt
+taken_said gate (Some form) words = if is_taken gate form then form_said form words else Unbuilt
 
 -- A line is passed over where it has no word, or its first word begins with `#`.
 unfoldable pub said : Gate → List (List ℕ) → Said

@@ -1,8 +1,6 @@
 // The forms of lines, by their first words.
 ghost use Rattle.std.specs.Prelude.{◌≡◌};
-ghost use Rattle.seq_schedule.specs.Forms.{form_named, failure_named, is_built, is_taken, may_fail};
-
-use seq_words::Element;
+ghost use Rattle.seq_schedule.specs.Forms.{form_named, failure_named, is_built, is_taken};
 
 /// A form of line.
 #[derive(Clone, Copy)]
@@ -63,7 +61,7 @@ fn failure_named(word: &[u8]) -> Option<Form>
     }
 }
 
-/// Whether the machine runs what lines of this form say, of some element at least.
+/// Whether the machine runs what lines of this form say: all but hangups.
 fn is_built(form: Form) -> bool
     ensures { result ≡ is_built form }
 {
@@ -76,7 +74,7 @@ fn is_built(form: Form) -> bool
         Form::Close => true,
         Form::Fail => true,
         Form::Repair => true,
-        Form::Upset => false,
+        Form::Upset => true,
         Form::Hangup => false,
     }
 }
@@ -88,17 +86,5 @@ pub fn is_taken(gate: Gate, form: Form) -> bool
     match gate {
         Gate::Built => is_built(form),
         Gate::Open => true,
-    }
-}
-
-/// Whether failures and repairs of this element are taken: behind the gate those of processors alone.
-pub fn may_fail(gate: Gate, element: Element) -> bool
-    ensures { result ≡ may_fail gate element }
-{
-    match (gate, element) {
-        (Gate::Built, Element::Processor(_)) => true,
-        (Gate::Built, Element::Memory(_)) => false,
-        (Gate::Built, Element::Io(_)) => false,
-        (Gate::Open, _) => true,
     }
 }

@@ -15,7 +15,7 @@ mod script;
 mod tables;
 mod tally;
 
-pub use forms::{Form, Gate, is_taken, may_fail};
+pub use forms::{Form, Gate, is_taken};
 pub use laws::{gate_keeps_texts, items_are_there, texts_are_faultless, turns_are_counted};
 pub use limits::{MOST_LINES, MOST_TIMES, MOST_TURNS};
 pub use lines::{Said, read_line};

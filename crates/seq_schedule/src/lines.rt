@@ -6,7 +6,7 @@ ghost use Rattle.seq_schedule.specs.Said.{with_one, with_two, with_four, turn_sa
 ghost use Rattle.seq_schedule.specs.Forms.{form_named};
 ghost use Rattle.seq_schedule.specs.Numbers.{number_within, mask_of};
 
-use crate::forms::{Form, Gate, form_named, is_taken, may_fail};
+use crate::forms::{Form, Gate, form_named, is_taken};
 use crate::limits::MOST_TIMES;
 use crate::numbers::{bytes_of, line_named, mask_of, number_within};
 use crate::script::Script;
@@ -210,36 +210,28 @@ fn hangup(line: &[u8]) -> Said
 }
 
 #[tactic(auto, unfolding(crate::specs::Said::fail_said), using(crate::proofs::Arities::one_none))]
-fn fail(gate: Gate, line: &[u8]) -> Said
-    ensures { result ≡ with_one (fail_said gate) (words_of line.now) }
+fn fail(line: &[u8]) -> Said
+    ensures { result ≡ with_one fail_said (words_of line.now) }
 {
     let Some(element) = one_word(line) else {
         return Said::NoForm;
     };
-    let Some(element) = element_named(element) else {
-        return Said::NoForm;
-    };
-    if may_fail(gate, element) {
-        Said::Says(Script::One(Event::Fail(element)))
-    } else {
-        Said::Unbuilt
+    match element_named(element) {
+        None => Said::NoForm,
+        Some(element) => Said::Says(Script::One(Event::Fail(element))),
     }
 }
 
 #[tactic(auto, unfolding(crate::specs::Said::repair_said), using(crate::proofs::Arities::one_none))]
-fn repair(gate: Gate, line: &[u8]) -> Said
-    ensures { result ≡ with_one (repair_said gate) (words_of line.now) }
+fn repair(line: &[u8]) -> Said
+    ensures { result ≡ with_one repair_said (words_of line.now) }
 {
     let Some(element) = one_word(line) else {
         return Said::NoForm;
     };
-    let Some(element) = element_named(element) else {
-        return Said::NoForm;
-    };
-    if may_fail(gate, element) {
-        Said::Says(Script::One(Event::Repair(element)))
-    } else {
-        Said::Unbuilt
+    match element_named(element) {
+        None => Said::NoForm,
+        Some(element) => Said::Says(Script::One(Event::Repair(element))),
     }
 }
 
@@ -302,8 +294,8 @@ fn upset(line: &[u8]) -> Said
 
 // What the words behind the first say in a line of this form.
 #[tactic(auto, unfolding(crate::specs::Said::form_said))]
-fn form_said(alloc: Global, gate: Gate, form: Form, line: &[u8]) -> Result<Said, NoMemory>
-    ensures { IfOk result (λ s. s ≡ form_said gate form (words_of line.now)) }
+fn form_said(alloc: Global, form: Form, line: &[u8]) -> Result<Said, NoMemory>
+    ensures { IfOk result (λ s. s ≡ form_said form (words_of line.now)) }
 {
     match form {
         Form::Turn => Ok(turn(line)),
@@ -312,8 +304,8 @@ fn form_said(alloc: Global, gate: Gate, form: Form, line: &[u8]) -> Result<Said,
         Form::Finish => Ok(finish(line)),
         Form::Input => input(alloc, line),
         Form::Close => Ok(close(line)),
-        Form::Fail => Ok(fail(gate, line)),
-        Form::Repair => Ok(repair(gate, line)),
+        Form::Fail => Ok(fail(line)),
+        Form::Repair => Ok(repair(line)),
         Form::Upset => Ok(upset(line)),
         Form::Hangup => Ok(hangup(line)),
     }
@@ -326,7 +318,7 @@ fn taken_said(alloc: Global, gate: Gate, key: &[u8], rest: &[u8]) -> Result<Said
         None => Ok(Said::NoForm),
         Some(form) => {
             if is_taken(gate, form) {
-                form_said(alloc, gate, form, rest)
+                form_said(alloc, form, rest)
             } else {
                 Ok(Said::Unbuilt)
             }

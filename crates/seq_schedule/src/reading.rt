@@ -161,7 +161,7 @@ pub fn read(
 }
 
 /// Reads a schedule of what the machine runs. Places and rules are those of `read`; rule 0 is that the machine doesn't run
-/// such a line yet: it begins with `upset` or `hangup`, or a memory or an I/O element fails in it or is repaired.
+/// such a line yet: its first word is `hangup`.
 pub fn parse(alloc: Global, text: &[u8], desc: &MachineDesc) -> Result<Items<Item>, ReadError>
     requires { IsDescription desc.now }
     ensures items { IfOk result (λ items. items ≡ items_of Built text.now) }

@@ -336,43 +336,65 @@ const TAKEN: [(&[u8], usize); 32] = [
     ),
 ];
 
-// Places and rules while only processors fail.
-const GATED: [(&[u8], u64, u16); 38] = [
-    (b"fail m0\n", 1, 0),
-    (b"fail m7\n", 1, 0),
-    (b"repair m0\n", 1, 0),
-    (b"fail i0\n", 1, 0),
-    (b"fail i3\n", 1, 0),
-    (b"repair i0\n", 1, 0),
-    (b"upset\n", 1, 0),
-    (b"upset p0 a 1 0x1\n", 1, 0),
-    (b"hangup x y z\n", 1, 0),
+// Places and rules while no line is hung up.
+const GATED: [(&[u8], u64, u16); 52] = [
+    (b"hangup\n", 1, 0),
     (b"hangup 0\n", 1, 0),
-    (b"# fail\n\nfail m0\n", 3, 0),
-    (b"fail p0\nfail m0\n", 2, 0),
-    (b"fail p0\nrepair i0\n", 2, 0),
-    (b"fail p0\nupset p0 a 1 0x1\n", 2, 0),
+    (b"hangup 9\n", 1, 0),
+    (b"hangup x y z\n", 1, 0),
+    (b"hangup 0\nhangup 0\n", 1, 0),
+    (b"# fail\n\nhangup 0\n", 3, 0),
+    (b"fail m0\nhangup 0\n", 2, 0),
+    (b"upset p0 a 1 0x1\nhangup 1\n", 2, 0),
+    (b"fail i0\nrepair i0\nhangup 0", 3, 0),
     (b"fail\n", 1, 30),
     (b"repair\n", 1, 30),
-    (b"turn p0\nfail\n", 2, 30),
-    (b"fail p0 bad\n", 1, 30),
     (b"fail m0 bad\n", 1, 30),
     (b"repair i0 0\n", 1, 30),
-    (b"fail p8\n", 1, 30),
     (b"fail m8\n", 1, 30),
     (b"repair i4\n", 1, 30),
     (b"failing p0\n", 1, 30),
-    (b"bad\nfail p0\n", 1, 30),
-    (b"turn p0 fail\n", 1, 30),
+    (b"upset\n", 1, 30),
+    (b"upset p0 a 1 1\n", 1, 30),
+    (b"upset m0 a 1 0x1\n", 1, 30),
+    (b"turn p0\nfail\n", 2, 30),
+    (b"turn p0 hangup\n", 1, 30),
+    (b"bad\nhangup 0\n", 1, 30),
+    (b"upset p0 a 0 0x1\n", 1, 31),
+    (b"upset p0 a 33 0x1\n", 1, 31),
+    (b"upset p0 b 1 0x0\n", 1, 31),
     (b"round 0\nhangup 0\n", 1, 31),
-    (b"turn p2\nfail m0\n", 1, 32),
     (b"fail p2\n", 1, 32),
-    (b"repair p7\n", 1, 32),
-    (b"fail p0\nfail p0\n", 2, 33),
+    (b"fail m3\n", 1, 32),
+    (b"repair m7\n", 1, 32),
+    (b"fail i1\n", 1, 32),
+    (b"repair i3\n", 1, 32),
+    (b"upset p2 a 1 0x1\n", 1, 32),
+    (b"turn p2\nhangup 0\n", 1, 32),
+    (b"fail m0\nfail m0\n", 2, 33),
+    (b"fail i0\nturn i0\nfail i0\n", 3, 33),
+    (b"repair m0\n", 1, 33),
+    (b"repair i0\n", 1, 33),
+    (b"fail m0\nrepair m0\nrepair m0\n", 3, 33),
+    (b"fail m1\nfail m0\nrepair m2\n", 3, 33),
+    (b"fail i0\nrepair m0\n", 2, 33),
+    (b"fail m0\nrepair m0\nfail m0\nfail m0\n", 4, 33),
     (b"fail p0\nturn p0\nfail p1\n# p0\nfail p0\n", 5, 33),
-    (b"repair p0\n", 1, 33),
-    (b"fail p0\nrepair p1\n", 2, 33),
-    (b"fail p0\nrepair p0\nrepair p0\n", 3, 33),
+    (b"upset p0 a 1 0x1\nrepair p0\n", 2, 33),
+    (b"fail p0\nupset p0 a 1 0x1\n", 2, 34),
+    (b"upset p0 a 1 0x1\nfail p0\nupset p0 a 1 0x1\n", 3, 34),
+    (b"fail p0\nrepair p0\nfail p0\nupset p0 b 2 0x1\n", 4, 34),
+    (b"upset p0 a 5 0x1\nupset p0 b 6 0x1\n", 2, 35),
+    (
+        b"upset p0 b 5 0x1\nfail m0\nrepair m0\nupset p0 a 5 0x1\n",
+        4,
+        35,
+    ),
+    (
+        b"upset p0 a 5 0x1\nfail p0\nrepair p0\nupset p0 b 6 0x1\nupset p0 a 5 0x1\n",
+        5,
+        35,
+    ),
     (b"close 0\nclose 0\nfail p0\n", 2, 36),
     (
         b"round 10000000\nround 10000000\nround 10000000\nround 10000000\nround 10000000\nround 10000000\nround 10000000\nfail p0\n",
@@ -380,23 +402,33 @@ const GATED: [(&[u8], u64, u16); 38] = [
         39,
     ),
     (
-        b"round 10000000\nround 10000000\nround 10000000\nround 10000000\nround 10000000\nround 10000000\nturns p0 10000000\nturns p0 10000000\nfail p0\nturn p0\n",
+        b"round 10000000\nround 10000000\nround 10000000\nround 10000000\nround 10000000\nround 10000000\nturns p0 10000000\nturns p0 10000000\nfail m0\nturn p0\n",
         10,
         39,
     ),
 ];
 
-// Schedules in which processors fail that violate no rule, with the number of their items.
-const FAILING: [(&[u8], usize); 8] = [
+// Schedules with failures and strikes that violate no rule, with the number of their items.
+const FAILING: [(&[u8], usize); 12] = [
     (b"fail p0", 1),
-    (b" fail\tp1 \r\n", 1),
-    (b"fail p0\nrepair p0\n", 2),
-    (b"fail p0\nrepair p0\nfail p0\nrepair p0\n", 4),
-    (b"fail p0\nfail p1\nrepair p0\nrepair p1\n", 4),
+    (b" fail\tm1 \r\n", 1),
+    (b"fail i0\nrepair i0\n", 2),
+    (b"fail m0\nrepair m0\nfail m0\nrepair m0\n", 4),
+    (
+        b"fail p0\nfail m0\nfail i0\nrepair i0\nrepair m0\nrepair p0\n",
+        6,
+    ),
+    (b"fail m0\nfail m1\nfail m2\n", 3),
     (b"fail p0\nturn p0\nturns p0 3\nround 2\nfinish 1\n", 5),
     (b"fail p0\ninput 0 41\nclose 0\nrepair p0\n", 4),
+    (b"upset p0 b 31 0x1\nfinish 10000", 2),
     (
-        b"round 10000000\nround 10000000\nround 10000000\nround 10000000\nround 10000000\nround 10000000\nturns p0 10000000\nturns p0 10000000\nfail p0\nrepair p0\n",
+        b"upset p0 a 5 0x1\nfail p0\nrepair p0\nupset p0 b 6 0x1\n",
+        4,
+    ),
+    (b"upset p0 a 5 0x1\nupset p1 b 6 0x1\nupset p0 a 5 0x1\n", 3),
+    (
+        b"round 10000000\nround 10000000\nround 10000000\nround 10000000\nround 10000000\nround 10000000\nturns p0 10000000\nturns p0 10000000\nfail m0\nupset p1 a 32 0x1\n",
         10,
     ),
 ];
@@ -559,14 +591,20 @@ fn every_form_is_read(rt: HostRuntime) -> Result<(), Fail> {
         (13, Wanted::One(Event::Hangup(LineNo(0)))),
     ];
     assert_eq!(rt; first_other(items.as_slice(), &wanted), None);
-    let built = parse(alloc, b"turn p1\n\nfail p0\nrepair p0\nfinish 3", &desc)
-        .ok()
-        .ok_or("refused")?;
+    let built = parse(
+        alloc,
+        b"turn p1\n\nfail m1\nrepair m1\nfail i0\nupset p1 a 31 0x1\nfinish 3",
+        &desc,
+    )
+    .ok()
+    .ok_or("refused")?;
     let wanted = [
         (1, Wanted::One(Event::Processor(Pe(1)))),
-        (3, Wanted::One(Event::Fail(Element::Processor(Pe(0))))),
-        (4, Wanted::One(Event::Repair(Element::Processor(Pe(0))))),
-        (5, Wanted::Finish(3)),
+        (3, Wanted::One(Event::Fail(Element::Memory(Me(1))))),
+        (4, Wanted::One(Event::Repair(Element::Memory(Me(1))))),
+        (5, Wanted::One(Event::Fail(Element::Io(Ioe(0))))),
+        (6, Wanted::One(Event::Upset(Pe(1), Half::A, 31, 1))),
+        (7, Wanted::Finish(3)),
     ];
     assert_eq!(rt; first_other(built.as_slice(), &wanted), None);
     Ok(())

@@ -31,8 +31,9 @@ use Rattle.seq_turns.specs.Reading.{context_of, is_amid}
 use Rattle.seq_turns.specs.Causes.{agree, flushes, finds, follows, release_next, after_releases}
 use Rattle.seq_turns.specs.Operations.{taken_up, flush_move, less, unit_count}
 use Rattle.seq_turns.specs.Recoveries as table
-use Rattle.seq_turns.specs.Recoveries.{recovered_blocks, first_left, left_above, after_clearing, locks_cleared, recovery_move}
+use Rattle.seq_turns.specs.Recoveries.{recovered_blocks, left_from, after_clearing, locks_cleared, recovery_move}
 use Rattle.seq_turns.specs.Processors.{turn}
+use Rattle.seq_turns.proofs.LeftFrom.{left_passes}
 use Rattle.seq_stands.specs.Hands.{IsHand}
 use Rattle.seq_stands.specs.FitHands.{MaskFits, HandFits}
 use Rattle.seq_stands.specs.Fit.{FlushAtFits, RecoveryAtFits, HandHolds, Fit}
@@ -143,18 +144,18 @@ module _ (d : MachineDesc) where
     recovered (recovery.Copying r) fits = let few = fits.turns in
         cond_both (nat_le (length (recovered_blocks d m.copies r.pid.0)) (r.cursor + 1)) (recovery.Locks (table.into_stage r (record {}))) (recovery.Copying (record r { cursor = r.cursor + 1 })) (λ x. recovery_left d x < recovery_left d (recovery.Copying r))
         (λ _. omega (arith, few)) (λ _. omega (arith, few))
-    recovered (recovery.Locks r) fits = go (first_left d m.copies r.pid.0)
+    recovered (recovery.Locks r) fits = go (left_from d m.copies r.pid.0 r.cursor) refl
       where
         few : r.cursor ≤ 2 * length d.segments
         few = fits.turns
 
-        after : (o : Option ℕ) → recovery_left d (after_clearing r o) < recovery_left d (recovery.Locks r)
-        after (Some j) = omega (arith, few)
-        after None = omega (arith, few)
+        after : (j : ℕ) → r.cursor ≤ j → (o : Option ℕ) → recovery_left d (after_clearing r j o) < recovery_left d (recovery.Locks r)
+        after j behind (Some k) = omega (arith, few, behind)
+        after j behind None = omega (arith, few)
 
-        go : (o : Option ℕ) → Leaves (recovery_left d (recovery.Locks r)) (locks_cleared d m p r o)
-        go (Some j) = after (left_above d m.copies r.pid.0 j)
-        go None = omega (arith, few)
+        go : (o : Option ℕ) → left_from d m.copies r.pid.0 r.cursor ≡ o → Leaves (recovery_left d (recovery.Locks r)) (locks_cleared d m p r o)
+        go (Some j) e = after j (left_passes d m.copies r.pid.0 r.cursor j e).0 (left_from d m.copies r.pid.0 (j + 1))
+        go None e = omega (arith, few)
     recovered (recovery.Closing r) fits = let few = fits.turns in cond_both (r.cursor == 0) _ _ (Leaves (recovery_left d (recovery.Closing r)))
         (λ z. let first = eqb-true r.cursor 0 z in omega (arith, first)) (λ _. omega (arith, few))
 

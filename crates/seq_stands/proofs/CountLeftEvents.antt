@@ -115,11 +115,11 @@ stopped_few d m p (Copies_unit i) is = absurd (false≢true is)
 stopped_few d m p Stops is = left_with m p (λ k h. left d k h ≤ most_left d) hand.Down (record (m.cache p) { changes = [] }) (omega arith)
 
 pub events_leave_few : EventsLeaveFew
-events_leave_few d m e p described fit clears may inside = go e may (cases_Bool (is_turn_of p e)) (cases_Bool (is_check d m e))
+events_leave_few d m e p described fit may inside = go e may (cases_Bool (is_turn_of p e)) (cases_Bool (is_check d m e))
   where
     go : (e : Event) → Allowed d m e → (is_turn_of p e ≡ true) ⊎ (is_turn_of p e ≡ false) → (is_check d m e ≡ true) ⊎ (is_check d m e ≡ false) → left_of d (happens d m e) p ≤ most_left d
     go e may (inr other) check = let less = others_raise_none d m e p other in let few = (left_is_few d m p fit inside).most in omega (arith, less, few)
-    go e may (inl is) (inr none) = (left_is_few d (happens d m e) p (events_keep_fit d m e described may none clears fit) inside).most
+    go e may (inl is) (inr none) = (left_is_few d (happens d m e) p (events_keep_fit d m e described may none fit) inside).most
     go (event.Processor q) may (inl is) (inl ends) =
         let same : q.0 ≡ p = eqb-true q.0 p is in
         subst (λ x. left_of d (happens d m (event.Processor q)) x ≤ most_left d) same (stopped_few d m q.0 (turn d m q.0 (m.hand q.0)) (and_parts _ _ ends).0)

@@ -34,7 +34,7 @@ use Rattle.seq_turns.specs.Machines.Turn.{Moves, Looks, Copies_unit, Stops}
 use Rattle.seq_turns.specs.Reading.{lock_word, copied_memory, context_of}
 use Rattle.seq_turns.specs.Causes.{agree, released, flushes, finds, follows, release_next, after_releases}
 use Rattle.seq_turns.specs.Operations.{taken_up, flush_move, less, unit_count}
-use Rattle.seq_turns.specs.Recoveries.{first_left, locks_cleared, recovery_move}
+use Rattle.seq_turns.specs.Recoveries.{left_from, locks_cleared, recovery_move}
 use Rattle.seq_turns.specs.Processors.{is_free, deserted, seeks, acquisition, after_step, runs, someone_amid, copies_or_waits, seeks_or_copies, runs_or_copies, turn}
 use Rattle.seq_stands.specs.CountAhead.{flush_ahead, ahead}
 use Rattle.seq_stands.specs.Counts.{CommitsLate}
@@ -121,7 +121,7 @@ module _ (d : MachineDesc) (m : Machine) (p : ℕ) where
   recovered : (r : RecoveryAt) → Counts 0 (recovery_move d m p r)
   recovered (recovery.Claimed r) = cond_both (r.cursor == 0) _ _ (Counts 0) (λ _. record { by_one = omega arith; commits = tt }) (λ _. record { by_one = omega arith; commits = tt })
   recovered (recovery.Copying r) = record { by_one = omega arith; commits = tt }
-  recovered (recovery.Locks r) = go (first_left d m.copies r.pid.0)
+  recovered (recovery.Locks r) = go (left_from d m.copies r.pid.0 r.cursor)
     where
       go : (o : Option ℕ) → Counts 0 (locks_cleared d m p r o)
       go (Some k) = record { by_one = omega arith; commits = tt }

@@ -1,5 +1,5 @@
 -- All that the turn of a processor may change: a block, the status word of a process, or the lock word of a segment.
-use Rattle.std.proofs.Common.{◌≡◌, ℕ, ◌-◌, ◌*◌, ◌/◌, ◌<◌, Bool, true, false, ◌==◌, nat_le, Option, Some, None, length, refl, ap, sym, ◌∙◌, subst, arith}
+use Rattle.std.proofs.Common.{◌≡◌, ℕ, ◌-◌, ◌/◌, ◌<◌, Bool, true, false, ◌==◌, nat_le, Option, Some, None, length, refl, ap, sym, ◌∙◌, subst, arith}
 use Rattle.std.proofs.lemmas.Bool.{cond_both}
 use Rattle.seq_words.specs.declared.block.Block.{Block}
 use Rattle.seq_words.specs.declared.description.MachineDesc.{MachineDesc}
@@ -30,9 +30,10 @@ use Rattle.seq_turns.specs.Machines.Turn.{Moves, Looks, Copies_unit, Stops}
 use Rattle.seq_turns.specs.Reading.{status_word, lock_word, write_word, write_block, copied_memory, is_deserted, ruling as status_now}
 use Rattle.seq_turns.specs.Causes.{agree, released, flushes, finds}
 use Rattle.seq_turns.specs.Operations.{flush_move, unit_count}
-use Rattle.seq_turns.specs.Recoveries.{is_left, first_left, locks_cleared, copied_over, recovery_move}
+use Rattle.seq_turns.specs.Recoveries.{left_from, locks_cleared, copied_over, recovery_move}
 use Rattle.seq_turns.specs.Processors.{is_free, looks, deserted, seeks, after_step, runs, someone_amid, copies_or_waits, seeks_or_copies, runs_or_copies, turn}
 use Rattle.seq_turns.proofs.Functions.{lowest_passes}
+use Rattle.seq_turns.proofs.LeftFrom.{left_passes}
 use Rattle.seq_stands.specs.Grips.{Stage, grip}
 use Rattle.seq_stands.specs.Grips.Grip.{On}
 use Rattle.seq_stands.specs.Words.{words_of, GripHolds, Grips}
@@ -116,10 +117,10 @@ module _ (d : MachineDesc) (m : Machine) (p : ℕ) (st : Stands d m) (P : Change
       over : (o : Option (ℕ × ℕ)) → P (copied_over d m.copies r.forward o)
       over None = none
       over (Some b) = block_set _ _ r.forward _
-  recovered (recovery.Locks r) l = go (first_left d m.copies r.pid.0) refl
+  recovered (recovery.Locks r) l = go (left_from d m.copies r.pid.0 r.cursor) refl
     where
-      go : (o : Option ℕ) → first_left d m.copies r.pid.0 ≡ o → Does (locks_cleared d m p r o)
-      go (Some k) e = let b = (lowest_passes (is_left d m.copies r.pid.0) (2 * length d.segments) k e).1 in lock (k / 2) _ 0 (omega (arith, b))
+      go : (o : Option ℕ) → left_from d m.copies r.pid.0 r.cursor ≡ o → Does (locks_cleared d m p r o)
+      go (Some k) e = let b = (left_passes d m.copies r.pid.0 r.cursor k e).2 in lock (k / 2) _ 0 (omega (arith, b))
       go None e = none
   recovered (recovery.Closing r) l = cond_both (r.cursor == 0) _ _ Does (λ _. status_set r.pid.0 true _ l) (λ _. status_set r.pid.0 false _ l)
 

@@ -43,7 +43,7 @@ use Rattle.seq_turns.specs.Machines.Turn.{Moves, Looks, Copies_unit, Stops}
 use Rattle.seq_turns.specs.Reading.{lock_word, context_of, copied_memory}
 use Rattle.seq_turns.specs.Causes.{agree, released, flushes, finds, follows, release_next, after_releases}
 use Rattle.seq_turns.specs.Operations.{taken_up, acquires, committed, flush_move, less, unlock_move, leave_move, unit_count}
-use Rattle.seq_turns.specs.Recoveries.{first_left, locks_cleared, recovery_move}
+use Rattle.seq_turns.specs.Recoveries.{left_from, locks_cleared, recovery_move}
 use Rattle.seq_turns.specs.Processors.{is_free, looks, deserted, seeks, after_step, runs, someone_amid, copies_or_waits, seeks_or_copies, runs_or_copies, turn}
 use Rattle.seq_stands.specs.Hands.{IsHand, IsLock}
 use Rattle.seq_stands.proofs.LockSteps.{Steps, HeldBy, step_held, no_bit, or_second}
@@ -199,7 +199,7 @@ module _ (d : MachineDesc) (described : IsDescription d) (m : Machine) (p : ℕ)
   recovered : (r : RecoveryAt) → MoveFits (recovery_move d m p r)
   recovered (recovery.Claimed r) = cond_both (r.cursor == 0) _ _ MoveFits (λ _. (tt, cached)) (λ _. (tt, cached))
   recovered (recovery.Copying r) = (tt, cached)
-  recovered (recovery.Locks r) = go (first_left d m.copies r.pid.0)
+  recovered (recovery.Locks r) = go (left_from d m.copies r.pid.0 r.cursor)
     where
       go : (o : Option ℕ) → MoveFits (locks_cleared d m p r o)
       go (Some k) = (tt, cached)

@@ -57,7 +57,7 @@ use Rattle.seq_turns.specs.Machines.Turn.{Moves, Looks, Copies_unit, Stops}
 use Rattle.seq_turns.specs.Reading.{lock_word, write_word, write_block, copied_memory, context_of}
 use Rattle.seq_turns.specs.Causes.{agree, released, flushes, finds, follows, release_next, after_releases}
 use Rattle.seq_turns.specs.Operations.{taken_up, acquires, committed, flush_move, less, unlock_move, leave_move, unit_count}
-use Rattle.seq_turns.specs.Recoveries.{copy_on, first_left, locks_cleared, copied_over, recovery_move, unit_taken, next_of, unit_copied}
+use Rattle.seq_turns.specs.Recoveries.{copy_on, left_from, locks_cleared, copied_over, recovery_move, unit_taken, next_of, unit_copied}
 use Rattle.seq_turns.specs.Processors.{is_free, looks, deserted, seeks, acquisition, after_step, runs, someone_amid, copies_or_waits, seeks_or_copies, runs_or_copies, turn}
 use Rattle.seq_turns.specs.Duties.{Duty, duty, tells_sent, takes, closes, goal, is_below, is_at, differs, may_send, rests}
 use Rattle.seq_turns.specs.Events.{stopped, is_down, comes_back, strikes, after_turn}
@@ -274,7 +274,7 @@ module _ (n : ℕ) (d : MachineDesc) (m : Machine) (described : IsDescription d)
         over : (o : Option (ℕ × ℕ)) → ChangeBelow (suc n) d (copied_over d m.copies r.forward o)
         over None = tt
         over (Some b) = block_set b.0 b.1 r.forward _ (copied_below b.0 b.1 (not r.forward))
-    recovered (recovery.Locks r) = go (first_left d m.copies r.pid.0)
+    recovered (recovery.Locks r) = go (left_from d m.copies r.pid.0 r.cursor)
       where
         go : (o : Option ℕ) → Does (locks_cleared d m p r o)
         go (Some k) = (tt, tt)

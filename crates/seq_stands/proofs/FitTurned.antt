@@ -1,7 +1,7 @@
 -- Every turn of a processor, by its hand: what the hand and the cache hold after it.
-use Rattle.std.proofs.Common.{◌≡◌, ℕ, suc, ◌+◌, ◌-◌, ◌*◌, ◌<◌, ◌≤◌, Bool, true, false, ◌==◌, ◌&&◌, nat_lt, nat_le, Option, Some, None, length, refl, ap, sym, ◌∙◌, subst, arith}
+use Rattle.std.proofs.Common.{◌≡◌, ℕ, suc, ◌+◌, ◌-◌, ◌*◌, ◌<◌, Bool, true, false, ◌==◌, nat_le, Option, Some, None, length, refl, ap, sym, ◌∙◌, subst, arith}
 use Rattle.std.specs.Prelude.{sum}
-use Rattle.std.proofs.lemmas.Bool.{cond_both, and_parts, ltb-true, leb-false, eqb-false}
+use Rattle.std.proofs.lemmas.Bool.{cond_both, leb-false, eqb-false}
 use Rattle.seq_words.specs.Description.{IsDescription}
 use Rattle.seq_words.specs.declared.description.MachineDesc.{MachineDesc}
 use Rattle.seq_layout.specs.Shapes.{blocks_of}
@@ -15,32 +15,15 @@ use Rattle.seq_turns.specs.declared.recovery.RecoveryAt.TheVariants as recovery
 use Rattle.seq_turns.specs.Machines.{Machine, Move, Turn}
 use Rattle.seq_turns.specs.Machines.Turn.{Moves, Looks, Copies_unit, Stops}
 use Rattle.seq_turns.specs.Reading.{copied_memory, is_deserted, ruling as status_now}
-use Rattle.seq_turns.specs.Recoveries.{into_stage, recovered_blocks, is_left, first_left, left_above, after_clearing, locks_cleared, recovery_move}
+use Rattle.seq_turns.specs.Recoveries.{into_stage, recovered_blocks, left_from, after_clearing, locks_cleared, recovery_move}
 use Rattle.seq_turns.specs.Processors.{next_process, is_free, looks, deserted, seeks, someone_amid, copies_or_waits, seeks_or_copies, runs_or_copies, turn}
 use Rattle.seq_turns.proofs.Functions.{lowest_passes}
+use Rattle.seq_turns.proofs.LeftFrom.{left_passes}
 use Rattle.seq_stands.specs.FitHands.{HandFits}
 use Rattle.seq_stands.specs.FitBlocks.{BlocksFit, AreWhole}
 use Rattle.seq_stands.specs.Fit.{RecoveryAtFits, HandHolds}
 use Rattle.seq_stands.proofs.FitCounted.{few_recovered}
 use Rattle.seq_stands.proofs.FitHeld.{MoveHolds, TurnHolds, ran, claimed, flushed, unlocked, left, taken_from}
-
--- the lock words that are still to be cleared come after as many as were cleared
-abbrev pub Ordered : MachineDesc → Machine → RecoveryAt → Type 0
-Ordered d m (recovery.Claimed r) = Unit {0}
-Ordered d m (recovery.Copying r) = Unit {0}
-Ordered d m (recovery.Locks r) = (k : ℕ) → first_left d m.copies r.pid.0 ≡ Some k → r.cursor ≤ k
-Ordered d m (recovery.Closing r) = Unit {0}
-
-abbrev pub HandOrdered : MachineDesc → Machine → Hand → Type 0
-HandOrdered d m hand.Down = Unit {0}
-HandOrdered d m hand.Seek = Unit {0}
-HandOrdered d m (hand.Claiming q c) = Unit {0}
-HandOrdered d m (hand.Running r) = Unit {0}
-HandOrdered d m (hand.Acquiring r t c) = Unit {0}
-HandOrdered d m (hand.Flushing r c mask f) = Unit {0}
-HandOrdered d m (hand.Unlocking r c mask l) = Unit {0}
-HandOrdered d m (hand.Leaving q l) = Unit {0}
-HandOrdered d m (hand.Recovering r) = Ordered d m r
 
 module _ (d : MachineDesc) (described : IsDescription d) (m : Machine) (p : ℕ) (full : (m.cache p).capacity ≡ d.cache) (bytes : AreWhole (m.cache p).changes) (blocks : BlocksFit d m.copies) (readable : AreReadable d m.copies) (scan : m.scan p < length d.processes) where
   abbrev Leaves : Move → Type 0
@@ -77,47 +60,43 @@ module _ (d : MachineDesc) (described : IsDescription d) (m : Machine) (p : ℕ)
       next_scan = cond_both (m.scan p + 1 == length d.processes) 0 (m.scan p + 1) (λ x. x < length d.processes) (λ _. omega (arith, described.processes.low_at))
           (λ f. let other = eqb-false (m.scan p + 1) (length d.processes) f in omega (arith, other, scan))
 
-  cleared : (r : Recovery locks_stage.Locks) (k : ℕ) (o : Option ℕ) → left_above d m.copies r.pid.0 k ≡ o → r.pid.0 < length d.processes → r.cursor ≤ k → RecoveryAtFits d (after_clearing r o)
-  cleared r k (Some j) e there few =
-      let found = lowest_passes (λ j. nat_lt k j && is_left d m.copies r.pid.0 j) (2 * length d.segments) j e in
-      let above = ltb-true k j (and_parts (nat_lt k j) (is_left d m.copies r.pid.0 j) found.0).0 in
-      let below = found.1 in
-      record { process = there; turns = omega (arith, few, above, below) }
-  cleared r k None e there few = record { process = there; turns = omega arith }
+  cleared : (r : Recovery locks_stage.Locks) (k : ℕ) (o : Option ℕ) → r.pid.0 < length d.processes → k < 2 * length d.segments → RecoveryAtFits d (after_clearing r k o)
+  cleared r k (Some j) there few = record { process = there; turns = omega (arith, few) }
+  cleared r k None there few = record { process = there; turns = omega arith }
 
-  recovered : (r : RecoveryAt) → RecoveryAtFits d r → Ordered d m r → Leaves (recovery_move d m p r)
-  recovered (recovery.Claimed r) at order = cond_both (r.cursor == 0) _ _ Leaves
+  recovered : (r : RecoveryAt) → RecoveryAtFits d r → Leaves (recovery_move d m p r)
+  recovered (recovery.Claimed r) at = cond_both (r.cursor == 0) _ _ Leaves
       (λ _. record { holds = record { process = at.process; turns = omega arith }; capacity = full; whole = bytes }) (λ _. record { holds = record { process = at.process; turns = omega arith }; capacity = full; whole = bytes })
-  recovered (recovery.Copying r) at order = record {
+  recovered (recovery.Copying r) at = record {
     holds = cond_both (nat_le (length (recovered_blocks d m.copies r.pid.0)) (r.cursor + 1)) (recovery.Locks (into_stage r (record {}))) (recovery.Copying (record r { cursor = r.cursor + 1 })) (RecoveryAtFits d)
         (λ _. record { process = at.process; turns = omega arith })
         (λ f. let more = leb-false (length (recovered_blocks d m.copies r.pid.0)) (r.cursor + 1) f in record { process = at.process; turns = omega (arith, more, few_recovered d m.copies r.pid.0 at.process) });
     capacity = full;
     whole = bytes;
   }
-  recovered (recovery.Locks r) at order = go (first_left d m.copies r.pid.0) refl
+  recovered (recovery.Locks r) at = go (left_from d m.copies r.pid.0 r.cursor) refl
     where
-      go : (o : Option ℕ) → first_left d m.copies r.pid.0 ≡ o → Leaves (locks_cleared d m p r o)
-      go (Some k) e = record { holds = cleared r k (left_above d m.copies r.pid.0 k) refl at.process (order k e); capacity = full; whole = bytes }
+      go : (o : Option ℕ) → left_from d m.copies r.pid.0 r.cursor ≡ o → Leaves (locks_cleared d m p r o)
+      go (Some k) e = record { holds = cleared r k (left_from d m.copies r.pid.0 (k + 1)) at.process (left_passes d m.copies r.pid.0 r.cursor k e).2; capacity = full; whole = bytes }
       go None e = record { holds = record { process = at.process; turns = omega arith }; capacity = full; whole = bytes }
-  recovered (recovery.Closing r) at order = cond_both (r.cursor == 0) _ _ Leaves
+  recovered (recovery.Closing r) at = cond_both (r.cursor == 0) _ _ Leaves
       (λ _. record { holds = record { process = at.process; turns = omega arith }; capacity = full; whole = bytes }) (λ _. record { holds = tt; capacity = full; whole = bytes })
 
-  pub turned_holds : (h : Hand) → m.hand p ≡ h → HandFits d h → HandHolds d (m.cache p).changes h → HandOrdered d m h → Turns (turn d m p h)
-  turned_holds hand.Down e fits holds order = record { holds = subst (HandHolds d (m.cache p).changes) (sym e) tt; capacity = full; whole = bytes }
-  turned_holds hand.Seek e fits holds order = go (copied_memory d m.copies) refl
+  pub turned_holds : (h : Hand) → m.hand p ≡ h → HandFits d h → HandHolds d (m.cache p).changes h → Turns (turn d m p h)
+  turned_holds hand.Down e fits holds = record { holds = subst (HandHolds d (m.cache p).changes) (sym e) tt; capacity = full; whole = bytes }
+  turned_holds hand.Seek e fits holds = go (copied_memory d m.copies) refl
     where
       go : (o : Option ℕ) → copied_memory d m.copies ≡ o → Turns (seeks_or_copies d m p o)
       go (Some i) is = copied hand.Seek e tt i is (someone_amid d m)
       go None is = sought e (deserted d m) refl
-  turned_holds (hand.Claiming q c) e fits holds order = taken_from d described m p full bytes q c blocks holds
-  turned_holds (hand.Running r) e fits holds order = go (copied_memory d m.copies) refl
+  turned_holds (hand.Claiming q c) e fits holds = taken_from d described m p full bytes q c blocks holds
+  turned_holds (hand.Running r) e fits holds = go (copied_memory d m.copies) refl
     where
       go : (o : Option ℕ) → copied_memory d m.copies ≡ o → Turns (runs_or_copies d m p r o)
       go (Some i) is = copied (hand.Running r) e holds i is (someone_amid d m)
       go None is = ran d described m p full bytes r fits.0 holds.0 fits.1 holds.1 readable blocks.whole
-  turned_holds (hand.Acquiring r t c) e fits holds order = claimed d described m p full bytes r fits.0 holds.0 fits.1 holds.1 t c fits.2.inside fits.2.new fits.2.left
-  turned_holds (hand.Flushing r c mask f) e fits holds order = flushed d described m p full bytes r fits.0 holds.0 c mask f holds.1 holds.2
-  turned_holds (hand.Unlocking r c mask l) e fits holds order = unlocked d described m p full bytes r fits.0 holds.0 c mask l holds.1
-  turned_holds (hand.Leaving q l) e fits holds order = left d described m p full bytes q l holds
-  turned_holds (hand.Recovering r) e fits holds order = recovered r holds order
+  turned_holds (hand.Acquiring r t c) e fits holds = claimed d described m p full bytes r fits.0 holds.0 fits.1 holds.1 t c fits.2.inside fits.2.new fits.2.left
+  turned_holds (hand.Flushing r c mask f) e fits holds = flushed d described m p full bytes r fits.0 holds.0 c mask f holds.1 holds.2
+  turned_holds (hand.Unlocking r c mask l) e fits holds = unlocked d described m p full bytes r fits.0 holds.0 c mask l holds.1
+  turned_holds (hand.Leaving q l) e fits holds = left d described m p full bytes q l holds
+  turned_holds (hand.Recovering r) e fits holds = recovered r holds

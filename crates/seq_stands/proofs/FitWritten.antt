@@ -1,5 +1,5 @@
 -- What the turn of a processor changes fits.
-use Rattle.std.proofs.Common.{◌≡◌, ◌≢◌, ◌⊎◌, inl, inr, ℕ, zero, suc, ◌+◌, ◌-◌, ◌*◌, ◌/◌, ◌<◌, ◌≤◌, Bool, true, false, not, ◌==◌, nat_le, List, Option, Some, None, length, refl, ap, sym, ◌∙◌, subst, arith}
+use Rattle.std.proofs.Common.{◌≡◌, ◌≢◌, ◌⊎◌, inl, inr, ℕ, zero, suc, ◌+◌, ◌-◌, ◌/◌, ◌<◌, ◌≤◌, Bool, true, false, not, ◌==◌, nat_le, List, Option, Some, None, length, refl, ap, sym, ◌∙◌, subst, arith}
 use Rattle.std.proofs.lemmas.Bool.{cond_both, cases_lt, eqb-false, leb-false}
 use Rattle.seq_words.specs.declared.block.Block.{Block}
 use Rattle.seq_words.specs.declared.description.MachineDesc.{MachineDesc}
@@ -39,9 +39,10 @@ use Rattle.seq_turns.specs.Machines.Turn.{Moves, Looks, Copies_unit, Stops}
 use Rattle.seq_turns.specs.Reading.{status_word, lock_word, holder, write_word, write_block, copied_memory, is_deserted, ruling as status_now}
 use Rattle.seq_turns.specs.Causes.{agree, released, flushes, finds}
 use Rattle.seq_turns.specs.Operations.{flush_move, unit_count}
-use Rattle.seq_turns.specs.Recoveries.{recovery_word, is_left, first_left, locks_cleared, copied_over, recovery_move}
+use Rattle.seq_turns.specs.Recoveries.{recovery_word, left_from, locks_cleared, copied_over, recovery_move}
 use Rattle.seq_turns.specs.Processors.{is_free, looks, deserted, seeks, after_step, runs, someone_amid, copies_or_waits, seeks_or_copies, runs_or_copies, turn}
 use Rattle.seq_turns.proofs.Functions.{lowest_passes}
+use Rattle.seq_turns.proofs.LeftFrom.{left_passes}
 use Rattle.seq_stands.specs.Hands.{IsHand, IsFlushAt, holder_is}
 use Rattle.seq_stands.proofs.LockSteps.{HeldBy, step_held}
 use Rattle.seq_stands.specs.FitHands.{HandFits}
@@ -164,10 +165,10 @@ module _ (d : MachineDesc) (m : Machine) (p : ℕ) (few : d.processors ≤ 256) 
       over : (o : Option (ℕ × ℕ)) → ChangeFits d (copied_over d m.copies r.forward o)
       over None = tt
       over (Some b) = block_set b.0 b.1 r.forward (m.copies.block b.0 b.1 (not r.forward)) (block_copied d m.copies words blocks b.0 b.1 (not r.forward))
-  recovered (recovery.Locks r) is at = go (first_left d m.copies r.pid.0) refl
+  recovered (recovery.Locks r) is at = go (left_from d m.copies r.pid.0 r.cursor) refl
     where
-      go : (o : Option ℕ) → first_left d m.copies r.pid.0 ≡ o → Does (locks_cleared d m p r o)
-      go (Some k) e = let b = (lowest_passes (is_left d m.copies r.pid.0) (2 * length d.segments) k e).1 in lock_change d (k / 2) 0 (omega (arith, b)) (omega arith)
+      go : (o : Option ℕ) → left_from d m.copies r.pid.0 r.cursor ≡ o → Does (locks_cleared d m p r o)
+      go (Some k) e = let b = (left_passes d m.copies r.pid.0 r.cursor k e).2 in lock_change d (k / 2) 0 (omega (arith, b)) (omega arith)
       go None e = tt
   recovered (recovery.Closing r) is at = cond_both (r.cursor == 0) _ _ Does (λ _. says r.pid.0 true status.Idle at.process free) (λ _. says r.pid.0 false status.Idle at.process free)
 

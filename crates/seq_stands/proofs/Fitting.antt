@@ -30,7 +30,6 @@ use Rattle.seq_io.specs.declared.element.PortState.{PortState}
 use Rattle.seq_kernel.specs.Bounds.{AreReadable}
 use Rattle.seq_turns.specs.declared.hand.Hand.{Hand}
 use Rattle.seq_turns.specs.declared.hand.Hand.TheVariants as hand
-use Rattle.seq_turns.specs.declared.recovery.RecoveryAt.TheVariants as recovery
 use Rattle.seq_turns.specs.Functions.{update}
 use Rattle.seq_turns.specs.Machines.{Machine, Move, Turn, copies_after}
 use Rattle.seq_turns.specs.Machines.Turn.{Moves, Looks, Copies_unit, Stops}
@@ -48,14 +47,14 @@ use Rattle.seq_stands.proofs.Serviced.{copied_out, fewer_out}
 use Rattle.seq_stands.specs.FitHands.{HandFits}
 use Rattle.seq_stands.specs.FitLines.{PortFits}
 use Rattle.seq_stands.specs.FitBlocks.{BlocksFit, AreWhole}
-use Rattle.seq_stands.specs.Fit.{StateFits, StatesFit, WordsFit, RunningFits, HandHolds, CacheFits, ProcessorFits, Fit, StartFit, ClearsInOrder, EventsKeepFit}
+use Rattle.seq_stands.specs.Fit.{StateFits, StatesFit, WordsFit, RunningFits, HandHolds, CacheFits, ProcessorFits, Fit, StartFit, EventsKeepFit}
 use Rattle.seq_stands.proofs.FitHands.{empty_is, TurnFits, turned}
 use Rattle.seq_stands.proofs.FitLaw.{strikes_fits, back_fits}
 use Rattle.seq_stands.proofs.FitSaved.{started_within}
 use Rattle.seq_stands.proofs.FitHeld.{MoveHolds, TurnHolds}
 use Rattle.seq_stands.proofs.FitChanged.{ChangeFits, words_kept, blocks_kept, unit_fits, words_lost, blocks_lost, status_fits}
 use Rattle.seq_stands.proofs.FitWritten.{TurnWrites, turn_writes}
-use Rattle.seq_stands.proofs.FitTurned.{HandOrdered, turned_holds}
+use Rattle.seq_stands.proofs.FitTurned.{turned_holds}
 use Rattle.seq_stands.proofs.FitPorts.{DutyFits, duty_fits, serves_line}
 
 pub few_processors : (d : MachineDesc) → IsDescription d → d.processors ≤ 256
@@ -103,21 +102,6 @@ fit_readable d m described fits = record {
   served = all_are_served (shape_of d) m.copies described.memories.low_at fits.states.one_out;
   counts = λ l. fits.words.counts l (first_copy (shape_of d) m.copies (line_extent (shape_of d) l));
 }
-
--- a recovery's locks are cleared in order, in the hand of this processor
-ordered : (d : MachineDesc) (m : Machine) (p : ℕ) → p < d.processors → ClearsInOrder d m → (h : Hand) → m.hand p ≡ h → HandOrdered d m h
-ordered d m p l order hand.Down e = tt
-ordered d m p l order hand.Seek e = tt
-ordered d m p l order (hand.Claiming q c) e = tt
-ordered d m p l order (hand.Running r) e = tt
-ordered d m p l order (hand.Acquiring r t c) e = tt
-ordered d m p l order (hand.Flushing r c mask f) e = tt
-ordered d m p l order (hand.Unlocking r c mask x) e = tt
-ordered d m p l order (hand.Leaving q x) e = tt
-ordered d m p l order (hand.Recovering (recovery.Claimed r)) e = tt
-ordered d m p l order (hand.Recovering (recovery.Copying r)) e = tt
-ordered d m p l order (hand.Recovering (recovery.Locks r)) e = λ k found. order.order p k r l e found
-ordered d m p l order (hand.Recovering (recovery.Closing r)) e = tt
 
 empty_fits : (d : MachineDesc) (c : Changes) → CacheFits d c → CacheFits d (record c { changes = [] })
 empty_fits d c is = record { cache = empty_is c is.cache; capacity = is.capacity; whole = λ k none lt. absurd (let x : ⊥ = omega (arith, lt) in x) }
@@ -245,12 +229,12 @@ module _ (d : MachineDesc) (m : Machine) (fits : Fit d m) where
           (λ e _. ap (λ x. is_in_service (m.copies.state x)) e ∙ copied_out (m.copies.state i) (lowest_passes (λ k. is_copied (m.copies.state k)) d.memories i found).0) (λ _ h. h)
 
   -- the turn of a processor
-  turn_fits : (described : IsDescription d) (p : ℕ) → p < d.processors → ClearsInOrder d m → Fit d (after_turn d m p (turn d m p (m.hand p)))
-  turn_fits described p there order =
+  turn_fits : (described : IsDescription d) (p : ℕ) → p < d.processors → Fit d (after_turn d m p (turn d m p (m.hand p)))
+  turn_fits described p there =
       go (turn d m p (m.hand p))
       (turned d described m p now.cache.cache (record { readable = fit_readable d m described fits; within = λ q c e free live. started_within d m.copies q fits.blocks (subst (HandHolds d (m.cache p).changes) e now.holds) }) (m.hand p) refl now.own now.bounds)
       (turned_hand d m p (m.hand p) refl now.own)
-      (turned_holds d described m p now.cache.capacity now.cache.whole fits.blocks (fit_readable d m described fits) now.scan (m.hand p) refl now.bounds now.holds (ordered d m p there order (m.hand p) refl))
+      (turned_holds d described m p now.cache.capacity now.cache.whole fits.blocks (fit_readable d m described fits) now.scan (m.hand p) refl now.bounds now.holds)
       (turn_writes d m p (few_processors d described) there now.scan fits.words fits.blocks now.cache.whole (m.hand p) now.own now.bounds now.holds)
     where
       now : ProcessorFits d p (m.incarnation p) (m.hand p) (m.cache p) (m.scan p)
@@ -355,26 +339,26 @@ others_serve d m i none j l ne =
     not-false (is_in_service (m.copies.state j)) (sym (ap (λ b. not b && not (is_in_service (m.copies.state j))) (ne_eqb j i ne)) ∙ test)
 
 pub events_keep_fit : EventsKeepFit
-events_keep_fit d m (event.Processor p) described ok on order fits = turn_fits d m fits described p.0 ok order
-events_keep_fit d m (event.Io i) described ok on order fits = io_fits d m fits i.0 ok
-events_keep_fit d m (event.Input l byte) described ok on order fits = port_fits d m fits l.0 _ (λ below.
+events_keep_fit d m (event.Processor p) described ok on fits = turn_fits d m fits described p.0 ok
+events_keep_fit d m (event.Io i) described ok on fits = io_fits d m fits i.0 ok
+events_keep_fit d m (event.Input l byte) described ok on fits = port_fits d m fits l.0 _ (λ below.
     let port = fits.ports l.0 below in
     record { taken = omega (arith, port.taken); arrived = omega (arith, ok.room); store = length-set (m.port l.0).store (m.port l.0).arrived byte ∙ port.store })
-events_keep_fit d m (event.Close l) described ok on order fits = port_fits d m fits l.0 _ (λ below. record { taken = (fits.ports l.0 below).taken; arrived = (fits.ports l.0 below).arrived; store = (fits.ports l.0 below).store })
-events_keep_fit d m (event.Fail (element.Processor p)) described ok on order fits = cond_both (is_down (m.hand p.0)) _ _ (Fit d) (λ _. fits) (λ _. stop_fits d m fits p.0 ok)
-events_keep_fit d m (event.Fail (element.Memory i)) described ok on order fits =
+events_keep_fit d m (event.Close l) described ok on fits = port_fits d m fits l.0 _ (λ below. record { taken = (fits.ports l.0 below).taken; arrived = (fits.ports l.0 below).arrived; store = (fits.ports l.0 below).store })
+events_keep_fit d m (event.Fail (element.Processor p)) described ok on fits = cond_both (is_down (m.hand p.0)) _ _ (Fit d) (λ _. fits) (λ _. stop_fits d m fits p.0 ok)
+events_keep_fit d m (event.Fail (element.Memory i)) described ok on fits =
     lost_fits d m fits described i.0 (others_serve d m i.0 (none_of (another_out d m i.0) (or_parts (is_some (another_out d m i.0)) (is_some (awaiting d m)) on).0))
-events_keep_fit d m (event.Fail (element.Io i)) described ok on order fits = element_fits d m fits i.0 _ (inl refl)
-events_keep_fit d m (event.Repair (element.Processor p)) described ok on order fits =
+events_keep_fit d m (event.Fail (element.Io i)) described ok on fits = element_fits d m fits i.0 _ (inl refl)
+events_keep_fit d m (event.Repair (element.Processor p)) described ok on fits =
     let now = fits.processors p.0 ok.0 in
     hand_fits d m fits p.0 (comes_back (m.hand p.0)) ok.0 (back_fits d (m.hand p.0) now.bounds) (back_hand d p.0 (m.incarnation p.0) (m.hand p.0) now.own) (back_holds d (m.cache p.0).changes (m.hand p.0) now.holds)
-events_keep_fit d m (event.Repair (element.Memory i)) described ok on order fits = mended_fits d m fits i.0 ok.down
-events_keep_fit d m (event.Repair (element.Io i)) described ok on order fits = element_fits d m fits i.0 _ (fits.cursors i.0 ok.0)
-events_keep_fit d m (event.Upset p half reg mask) described ok on order fits =
+events_keep_fit d m (event.Repair (element.Memory i)) described ok on fits = mended_fits d m fits i.0 ok.down
+events_keep_fit d m (event.Repair (element.Io i)) described ok on fits = element_fits d m fits i.0 _ (fits.cursors i.0 ok.0)
+events_keep_fit d m (event.Upset p half reg mask) described ok on fits =
     let now = fits.processors p.0 ok.processor in
     hand_fits d m fits p.0 (strikes half reg mask (m.hand p.0)) ok.processor (strikes_fits d half reg mask (m.hand p.0) ok.other now.bounds) (struck_hand d p.0 (m.incarnation p.0) half reg mask (m.hand p.0) now.own)
     (strikes_hold d (m.cache p.0).changes half reg mask (m.hand p.0) now.holds)
-events_keep_fit d m (event.Hangup l) described ok on order fits = record {
+events_keep_fit d m (event.Hangup l) described ok on fits = record {
   states = fits.states;
   words = fits.words;
   blocks = fits.blocks;

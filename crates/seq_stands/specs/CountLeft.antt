@@ -21,7 +21,7 @@ use Rattle.seq_turns.specs.Machines.{Machine}
 use Rattle.seq_turns.specs.Reading.{copied_memory, is_amid}
 use Rattle.seq_turns.specs.Allowed.{Allowed}
 use Rattle.seq_turns.specs.Events.{happens, run}
-use Rattle.seq_stands.specs.Fit.{Fit, ClearsInOrder}
+use Rattle.seq_stands.specs.Fit.{Fit}
 
 -- how many of the segments below a number a mask has
 abbrev pub segments_below : ℕ → ℕ → ℕ
@@ -93,7 +93,7 @@ LeftIsFew = (d : MachineDesc) (m : Machine) (p : ℕ) → Fit d m → p < d.proc
 -- So it is after every event that may be made of a machine that fits: what begins an operation leaves at most so many.
 abbrev pub EventsLeaveFew : Type 0
 EventsLeaveFew =
-    (d : MachineDesc) (m : Machine) (e : Event) (p : ℕ) → IsDescription d → Fit d m → ClearsInOrder d m → Allowed d m e → p < d.processors → left_of d (happens d m e) p ≤ most_left d
+    (d : MachineDesc) (m : Machine) (e : Event) (p : ℕ) → IsDescription d → Fit d m → Allowed d m e → p < d.processors → left_of d (happens d m e) p ≤ most_left d
 
 -- Each turn of a processor amid an operation leaves fewer.
 abbrev pub OwnTurnsLower : Type 0

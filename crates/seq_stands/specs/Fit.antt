@@ -1,5 +1,5 @@
 -- The bounds of all that the machine's elements hold. They say nothing of what was committed and sent.
-use Rattle.std.specs.Prelude.{◌≡◌, ◌⊎◌, ℕ, ◌+◌, ◌*◌, ◌<◌, ◌≤◌, Bool, false, List, [], length, sum, Some}
+use Rattle.std.specs.Prelude.{◌≡◌, ◌⊎◌, ℕ, ◌+◌, ◌*◌, ◌<◌, ◌≤◌, Bool, false, List, [], length, sum}
 use Rattle.seq_words.specs.Description.{IsDescription, line_count}
 use Rattle.seq_words.specs.declared.block.Block.{Block}
 use Rattle.seq_words.specs.declared.description.MachineDesc.{MachineDesc}
@@ -23,12 +23,9 @@ use Rattle.seq_turns.specs.declared.hand.Hand.{Hand}
 use Rattle.seq_turns.specs.declared.hand.Hand.TheVariants as hand
 use Rattle.seq_turns.specs.declared.hand.FlushAt.{FlushAt}
 use Rattle.seq_turns.specs.declared.hand.FlushAt.TheVariants as flush
-use Rattle.seq_turns.specs.declared.recovery.Locks.{Locks}
-use Rattle.seq_turns.specs.declared.recovery.Recovery.{Recovery}
 use Rattle.seq_turns.specs.declared.recovery.RecoveryAt.{RecoveryAt}
 use Rattle.seq_turns.specs.declared.recovery.RecoveryAt.TheVariants as recovery
 use Rattle.seq_turns.specs.Machines.{Machine}
-use Rattle.seq_turns.specs.Recoveries.{first_left}
 use Rattle.seq_turns.specs.Start.{start}
 use Rattle.seq_turns.specs.Allowed.{Allowed}
 use Rattle.seq_turns.specs.Events.{happens, is_check}
@@ -84,12 +81,12 @@ FlushAtFits d changes (flush.First f) = FlushFits d (length changes + 8) f
 FlushAtFits d changes (flush.Second f) = FlushFits d (length changes + 8) f
 FlushAtFits d changes (flush.Close f) = FlushFits d 1 f
 
--- a recovery is of a process that is there, with at most so many turns of its stage taken
+-- a recovery is of a process that is there, with its cursor at most at this number
 pub record RecoveryFits (d : MachineDesc) (most q cursor : ℕ) : Type 0 where
   pub process : q < length d.processes
   pub turns : cursor ≤ most
 
--- two words are written, or blocks copied, or two lock words of each segment cleared
+-- two words are written, or blocks copied, or of the lock words, two for each segment, so many are passed
 abbrev pub RecoveryAtFits : MachineDesc → RecoveryAt → Type 0
 RecoveryAtFits d (recovery.Claimed r) = RecoveryFits d 1 r.pid.0 r.cursor
 RecoveryAtFits d (recovery.Copying r) = RecoveryFits d (sum (blocks_of d)) r.pid.0 r.cursor
@@ -140,10 +137,6 @@ pub record ImageFits (d : MachineDesc) (image : ℕ → ℕ → Block) : Type 0 
 abbrev pub StartFit : Type 0
 StartFit = (d : MachineDesc) (image : ℕ → ℕ → Block) → IsDescription d → ImageFits d image → Fit d (start d image)
 
--- the lock words that a recovery is still to clear come after as many as it has cleared
-pub record ClearsInOrder (d : MachineDesc) (m : Machine) : Type 0 where
-  pub order : (p k : ℕ) (r : Recovery Locks) → p < d.processors → m.hand p ≡ hand.Recovering (recovery.Locks r) → first_left d m.copies r.pid.0 ≡ Some k → r.cursor ≤ k
-
 -- every event that ends no run keeps what fits
 abbrev pub EventsKeepFit : Type 0
-EventsKeepFit = (d : MachineDesc) (m : Machine) (e : Event) → IsDescription d → Allowed d m e → is_check d m e ≡ false → ClearsInOrder d m → Fit d m → Fit d (happens d m e)
+EventsKeepFit = (d : MachineDesc) (m : Machine) (e : Event) → IsDescription d → Allowed d m e → is_check d m e ≡ false → Fit d m → Fit d (happens d m e)

@@ -13,7 +13,7 @@ pub fn machines_start_within_bounds()
     ensures numbers { MachinesStartAtZero }
 {}
 
-/// Every event that may be made and ends no run keeps what fits, where recoveries clear locks in their order.
+/// Every event that may be made and ends no run keeps what fits.
 pub fn events_keep_bounds()
     ensures { EventsKeepFit }
 {}

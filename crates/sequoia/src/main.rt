@@ -92,6 +92,10 @@ fn main(rt: HostRuntime) -> ExitCode {
 }
 
 #[cfg(test)]
+mod elements;
+#[cfg(test)]
+mod images;
+#[cfg(test)]
 mod runs;
 #[cfg(test)]
 mod tests;

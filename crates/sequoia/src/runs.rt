@@ -8,7 +8,7 @@ use crate::tests::{Failing, NONE, failing_line, words_of};
 use rand_core::Rng;
 use rand_pcg::Pcg32;
 use seq_shelf::{Line, MemChronicle, MemShelf, Outlet, SoundSink};
-use seq_words::{Bytes, Entry, LineNo, NoMemory, Pid};
+use seq_words::{Blocker, Bytes, Element, Entry, LineNo, Me, NoMemory, Pe, Pid};
 use std::test::Fail;
 
 // A program: the name of its image's file, and the image: a header of sixteen bytes, and the bytes from address 0 on.
@@ -18,7 +18,7 @@ struct Program {
     image: &'static [u8],
 }
 
-const PROGRAMS: [Program; 7] = [
+const PROGRAMS: [Program; 8] = [
     // Writes the byte 41 and exits.
     Program {
         name: "hello.sqi",
@@ -27,6 +27,16 @@ const PROGRAMS: [Program; 7] = [
             0x00, 0x00, 0x13, 0x05, 0x00, 0x00, 0x93, 0x05, 0x00, 0x02, 0x13, 0x06, 0x10, 0x00,
             0x93, 0x08, 0x40, 0x00, 0x73, 0x00, 0x00, 0x00, 0x13, 0x05, 0x00, 0x00, 0x93, 0x08,
             0x00, 0x00, 0x73, 0x00, 0x00, 0x00, 0x41,
+        ],
+    },
+    // Writes the bytes 41 42 and exits.
+    Program {
+        name: "hello2.sqi",
+        image: &[
+            0x53, 0x51, 0x49, 0x31, 0x40, 0x00, 0x00, 0x00, 0x22, 0x00, 0x00, 0x00, 0x00, 0x00,
+            0x00, 0x00, 0x13, 0x05, 0x00, 0x00, 0x93, 0x05, 0x00, 0x02, 0x13, 0x06, 0x20, 0x00,
+            0x93, 0x08, 0x40, 0x00, 0x73, 0x00, 0x00, 0x00, 0x13, 0x05, 0x00, 0x00, 0x93, 0x08,
+            0x00, 0x00, 0x73, 0x00, 0x00, 0x00, 0x41, 0x42,
         ],
     },
     // Writes the bytes 41 42 43 and exits.
@@ -116,8 +126,12 @@ const TRAPPED: &str =
     "sequoia 1\nprocessors 1\nmemories 2\nios 1\ncache 16\nquantum 1000\njournal 32\nprocess trap.sqi lines 0 segments -\n";
 
 // Two processors and two I/O elements, and one process.
-const PAIR: &str =
+pub(crate) const PAIR: &str =
     "sequoia 1\nprocessors 2\nmemories 2\nios 2\ncache 16\nquantum 1000\njournal 32\nprocess hello.sqi lines 0 segments -\n";
+
+// The same with a process that writes two bytes.
+const PAIR2: &str =
+    "sequoia 1\nprocessors 2\nmemories 2\nios 2\ncache 16\nquantum 1000\njournal 32\nprocess hello2.sqi lines 0 segments -\n";
 
 // Two processes that add under one lock, on two processors.
 const TWO: &str =
@@ -134,7 +148,7 @@ struct Run {
     history: &'static [(u8, u32)],
 }
 
-const RUN_COUNT: usize = 27;
+const RUN_COUNT: usize = 36;
 
 const RUNS: [Run; RUN_COUNT] = [
     Run {
@@ -368,6 +382,103 @@ const RUNS: [Run; RUN_COUNT] = [
         bytes: &[],
         history: &[],
     },
+    // A memory fails amid the flush, which is finished on the other one, and is repaired and copied. Then the other one fails, and the
+    // byte is sent from the copy.
+    Run {
+        machine: HELLO,
+        schedule: "turns p0 15\nfail m0\nturns p0 21\nrepair m0\nturns i0 720\nturns p0 720\nfail m1\nfinish 100\n",
+        failing: NONE,
+        status: Status::Done,
+        bytes: &[0x41],
+        history: &[(0, 8)],
+    },
+    // Without the turns that copy it, the failure of the other one is a machine check.
+    Run {
+        machine: HELLO,
+        schedule: "turns p0 15\nfail m0\nturns p0 21\nrepair m0\nfail m1\n",
+        failing: NONE,
+        status: Status::MachineCheck {
+            line: 5,
+            stopped: Element::Memory(Me(1)),
+            cause: Blocker::Memory(Me(0)),
+        },
+        bytes: &[],
+        history: &[(0, 8)],
+    },
+    Run {
+        machine: HELLO,
+        schedule: "turns p0 15\nfail m0\nfail p0\n",
+        failing: NONE,
+        status: Status::MachineCheck {
+            line: 3,
+            stopped: Element::Processor(Pe(0)),
+            cause: Blocker::Memory(Me(0)),
+        },
+        bytes: &[],
+        history: &[],
+    },
+    // A process awaits recovery.
+    Run {
+        machine: HELLO,
+        schedule: "turns p0 15\nfail p0\nfail m0\n",
+        failing: NONE,
+        status: Status::MachineCheck {
+            line: 3,
+            stopped: Element::Memory(Me(0)),
+            cause: Blocker::Process(Pid(0)),
+        },
+        bytes: &[],
+        history: &[],
+    },
+    // The claim of processor 1 passes over the memory that failed. Its second turn takes the word that processor 0 has released,
+    // finds that the process has ended, and releases the word again.
+    Run {
+        machine: PAIR,
+        schedule: "fail m0\nturn p1\nturns p0 36\nturns p1 3\nfinish 10000\n",
+        failing: NONE,
+        status: Status::Done,
+        bytes: &[0x41],
+        history: &[(0, 8)],
+    },
+    // The second byte is sent by the other I/O element.
+    Run {
+        machine: PAIR2,
+        schedule: "turns p0 36\nturn i0\nfail i0\nturn i1\n",
+        failing: NONE,
+        status: Status::Done,
+        bytes: &[0x41, 0x42],
+        history: &[(0, 8)],
+    },
+    // A register that is never read is struck: the processor stops when its flush compares the halves, and the other one recovers.
+    Run {
+        machine: PAIR,
+        schedule: "turns p0 3\nupset p0 b 31 0x1\nfinish 10000\n",
+        failing: NONE,
+        status: Status::Done,
+        bytes: &[0x41],
+        history: &[(0, 8)],
+    },
+    // The other half may be struck only behind a failure and a repair.
+    Run {
+        machine: PAIR,
+        schedule: "upset p0 a 5 0x1\nupset p0 b 6 0x1\n",
+        failing: NONE,
+        status: Status::Refused {
+            file: 2,
+            place: 2,
+            rule: 35,
+        },
+        bytes: &[],
+        history: &[],
+    },
+    Run {
+        machine: PAIR,
+        schedule: "upset p0 a 5 0x1\nfail p0\nrepair p0\nupset p0 b 6 0x1\n",
+        failing: NONE,
+        status: Status::Done,
+        bytes: &[],
+        history: &[],
+    },
     // What fails hasn't failed already.
     Run {
         machine: HELLO,
@@ -396,7 +507,7 @@ const RUNS: [Run; RUN_COUNT] = [
 ];
 
 // A shelf with a machine, a schedule, and the images of all programs.
-fn shelf_of(
+pub(crate) fn shelf_of(
     alloc: Global,
     machine: &'static str,
     schedule: &[u8],
@@ -412,7 +523,7 @@ fn shelf_of(
 }
 
 // Runs the schedule on a shelf: how that ended, and the chronicle.
-fn run_on(
+pub(crate) fn run_on(
     alloc: Global,
     shelf: &mut MemShelf,
     failing: Failing,
@@ -429,14 +540,14 @@ fn run_on(
 }
 
 // Whether the entries are these.
-fn are_entries(found: &[Entry], wanted: &[(u8, u32)]) -> bool {
+pub(crate) fn are_entries(found: &[Entry], wanted: &[(u8, u32)]) -> bool {
     found.len() == wanted.len()
         && found.iter().zip(wanted.iter()).all(|(entry, (pid, count))| entry.pid == Pid(*pid)
             && entry.count == *count)
 }
 
 // Whether there is this line, and it has accepted these bytes and no more.
-fn has_accepted(lines: &Vec<Outlet>, at: usize, wanted: &[u8]) -> bool {
+pub(crate) fn has_accepted(lines: &Vec<Outlet>, at: usize, wanted: &[u8]) -> bool {
     if at >= lines.len() {
         return false;
     }

@@ -15,7 +15,7 @@ const MACHINE: &str =
 
 // Private size 64, 33 bytes, entry 0: addi x10, x0, 0; addi x11, x0, 32; addi x12, x0, 1; addi x17, x0, 4; ecall;
 // addi x10, x0, 0; addi x17, x0, 0; ecall; and the byte 41.
-const HELLO: [u8; 49] = [
+pub(crate) const HELLO: [u8; 49] = [
     0x53, 0x51, 0x49, 0x31, 0x40, 0, 0, 0, 0x21, 0, 0, 0, 0, 0, 0, 0, 0x13, 0x05, 0, 0, 0x93, 0x05,
     0, 0x02, 0x13, 0x06, 0x10, 0, 0x93, 0x08, 0x40, 0, 0x73, 0, 0, 0, 0x13, 0x05, 0, 0, 0x93, 0x08,
     0, 0, 0x73, 0, 0, 0, 0x41,
@@ -206,10 +206,10 @@ const ROWS: [Row; 16] = [
         bytes: &[0x41],
         entries: ALL_STEPS,
     },
-    // Only processors fail yet.
+    // Hangups aren't made yet.
     Row {
         machine: MACHINE,
-        schedule: "turn p0\nfail p0\nfail m0\n",
+        schedule: "turn p0\nfail p0\nhangup 0\n",
         failing: NONE,
         status: Status::Refused {
             file: 2,

@@ -1,4 +1,4 @@
-use Rattle.seq_course.proofs.Events.{enough, built_next, allowed_next, clears_next, numbers_next, event_made, event_breaks}
+use Rattle.seq_course.proofs.Events.{enough, built_next, allowed_next, numbers_next, event_made, event_breaks}
 use Rattle.seq_course.proofs.Scenes.{breaks_from}
 use Rattle.seq_course.proofs.making.one.Goals as goal
 
@@ -10,12 +10,6 @@ event-requires-clause-fit g c = c.requires.ready.ready.fit
 
 pub event-requires-clause-numbers : goal.event-requires-clause-numbers
 event-requires-clause-numbers g c = numbers_next c.args.event _ c.requires
-
-pub event-requires-clause-serving : goal.event-requires-clause-serving
-event-requires-clause-serving g c = c.requires.ready.ready.serving
-
-pub event-requires-clause-clears : goal.event-requires-clause-clears
-event-requires-clause-clears g c = clears_next c.args.event _ c.requires
 
 pub event-requires-clause-built : goal.event-requires-clause-built
 event-requires-clause-built g c = built_next c.args.event _ c.requires
@@ -29,7 +23,7 @@ event-requires-clause-lines g c = enough (λ z. (goal.Line-dyn g z).line z.1) c.
 pub returns-clause-ok : goal.returns-clause-ok
 returns-clause-ok g c =
     let made = c.in_ok-event.ensures in
-    event_made c.args.event c.args.hardware.now c.event.new.self _ _ _ _ _ _ _ c.requires made.desc made.machine made.note made.sent made.entries made.counts made.outside made.hung made.hardware made.fit made.serving
+    event_made c.args.event c.args.hardware.now c.event.new.self _ _ _ _ _ _ _ c.requires made.desc made.machine made.unchecked made.note made.sent made.entries made.counts made.outside made.hung made.hardware made.fit
 
 pub returns-in_err-event-clause-err : goal.returns-in_err-event-clause-err
 returns-in_err-event-clause-err g c =

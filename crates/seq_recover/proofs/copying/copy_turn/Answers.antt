@@ -34,7 +34,10 @@ returns-then-last-clause-locks c r is serve knows =
     let done : length blocks ≤ c.args.recovery.cursor + 1 = leb-true _ _ (sym c.is_last-last.ensures ∙ c.if-last.true) in
     let same : ◌≡◌ {A = Recovery Locks} (into_stage c.args.recovery (record {})) r = cc in
     subst (λ (x : Recovery Locks). LocksKnows d (copies c.args.layout.now c.copy_next.new.memories) x) same
-    (record { area = subst (λ (x : Copies). IsAreaEqual d x c.args.recovery.pid.0) (sym c.copy_next.ensures.copies) (area_equal d p c.args.recovery serve' knows done) })
+    (record {
+      area = subst (λ (x : Copies). IsAreaEqual d x c.args.recovery.pid.0) (sym c.copy_next.ensures.copies) (area_equal d p c.args.recovery serve' knows done);
+      behind = λ k lt. absurd (let none : ⊥ = omega (arith, lt) in none);
+    })
 
 pub returns-else-last-clause-copying : goal.returns-else-last-clause-copying
 returns-else-last-clause-copying c r is serve knows =

@@ -1,7 +1,7 @@
 use Rattle.std.proofs.Common.{◌≡◌, suc, ◌+◌, ◌∙◌, arith}
 use Rattle.seq_words.specs.declared.events.Event.TheVariants.{Processor}
 use Rattle.seq_machine.proofs.Readiness.{numbers_fit, goes_on}
-use Rattle.seq_machine.proofs.Making.{next_built, next_allowed, next_clears, next_may, next_leads, led, led_shown}
+use Rattle.seq_machine.proofs.Making.{next_built, next_allowed, next_may, next_leads, led, led_shown}
 use Rattle.seq_machine.proofs.hardware.Hardware.run.Goals as goal
 
 pub event-requires-clause-hardware : goal.event-requires-clause-hardware
@@ -15,14 +15,6 @@ event-requires-clause-numbers g c =
     let number = c.requires.ready.number in
     let room = c.requires.ready.room in
     numbers_fit (number + c.loop-event.event-index) c.loop-event.self (omega arith) (c.loop-event.invariant.ready number c.requires.ready.ready)
-
-pub event-requires-clause-serving : goal.event-requires-clause-serving
-event-requires-clause-serving g c = (c.loop-event.invariant.ready c.requires.ready.number c.requires.ready.ready).serving
-
-pub event-requires-clause-clears : goal.event-requires-clause-clears
-event-requires-clause-clears g c =
-    let may = c.loop-event.invariant.may in
-    next_clears c.args.events.now c.loop-event.event-index (Processor (record { 0 = 0 })) (omega arith) c.loop-event.self may.outside may.allowed
 
 pub event-requires-clause-built : goal.event-requires-clause-built
 event-requires-clause-built g c =
@@ -48,8 +40,8 @@ loop-event-preserved g c =
     let built = next_built es i (Processor (record { 0 = 0 })) (omega arith) old before.may.outside before.may.allowed in
     let allowed = next_allowed es i (Processor (record { 0 = 0 })) (omega arith) old before.may.outside before.may.allowed in
     record {
-      ready = λ n ready. (let on : n + (i + 1) ≡ suc (n + i) = omega arith in rw on (goes_on (n + i) old new _ _ _ (before.ready n ready) built allowed made.hardware made.desc made.fit made.serving made.machine));
-      may = next_may es i (Processor (record { 0 = 0 })) (omega arith) old new _ _ _ _ made.desc made.machine made.outside before.may;
+      ready = λ n ready. (let on : n + (i + 1) ≡ suc (n + i) = omega arith in rw on (goes_on (n + i) old new _ _ _ (before.ready n ready) built allowed made.hardware made.desc made.fit made.machine));
+      may = next_may es i (Processor (record { 0 = 0 })) (omega arith) old new _ _ _ _ made.desc made.unchecked made.machine made.outside before.may;
       leads = λ o is. next_leads es i (Processor (record { 0 = 0 })) (omega arith) old new _ _ _ _ c.args.self.now o before.desc made.machine made.outside (before.leads o is);
       hung = made.hung ∙ before.hung;
       number = made.number ∙ before.number;

@@ -1,0 +1,15 @@
+pub mod Moments
+pub mod Turned
+pub mod Sound
+pub mod Counts
+pub mod Needed
+pub mod Becomes
+pub mod Pace
+pub mod InService
+pub mod Below
+pub mod Deserts
+pub mod Recovers
+pub mod Seconds
+pub mod Mends
+pub mod Phases
+pub mod Uncovered

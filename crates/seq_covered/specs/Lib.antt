@@ -1,0 +1,3 @@
+pub mod Downs
+pub mod Memories
+pub mod Bound

@@ -1,0 +1,113 @@
+// Elements that fail, or are struck, at every moment of a small run on two processors, two memories and two I/O elements.
+ghost use Rattle.std.specs.Prelude.{◌≡◌, length};
+ghost use Rattle.seq_shelf.specs.Outlets.{views, marks};
+ghost use Rattle.seq_shelf.specs.Rows.{AreFresh};
+
+use super::*;
+use crate::runs::{PAIR, are_entries, has_accepted, run_on, shelf_of};
+use crate::tests::{NONE, failing_line};
+use seq_shelf::{Line, Outlet};
+use std::test::Fail;
+
+// Runs a schedule: whether the byte is sent, and the steps are committed once.
+fn comes_through(alloc: Global, schedule: &[u8], lines: &mut Vec<Outlet>) -> Result<bool, Fail>
+    requires sixteen { length lines.old.items ≡ 16 }
+    requires fresh { AreFresh (views line lines.old.items) (marks lines.old.items) }
+{
+    let mut shelf = shelf_of(alloc, PAIR, schedule, NONE)?;
+    let (status, chronicle) = run_on(alloc, &mut shelf, NONE, lines)?;
+    Ok(
+        status == Status::Done
+            && are_entries(chronicle.pairs(), &[(0, 8)])
+            && has_accepted(lines, 0, &[0x41])
+            && has_accepted(lines, 1, &[]),
+    )
+}
+
+// Rounds, event by event, up to so many events, and what follows them.
+fn events_and(alloc: Global, events: u64, then: &'static str) -> Result<Vec<u8>, AllocError> {
+    let mut text = Vec::new(alloc);
+    for event in 0..events {
+        let turn = match event % 4 {
+            0 => "turn p0\n",
+            1 => "turn p1\n",
+            2 => "turn i0\n",
+            _ => "turn i1\n",
+        };
+        text.extend_from_slice(turn.as_bytes())?;
+    }
+    text.extend_from_slice(then.as_bytes())?;
+    Ok(text)
+}
+
+// What follows some events of the run, which has at most 160: a memory fails and is copied again, or one or both of the I/O elements
+// fail, one of them for good.
+const FAILURES: [&str; 6] = [
+    "fail m0\nrepair m0\nround 720\nfinish 10000\n",
+    "fail m1\nrepair m1\nround 720\nfinish 10000\n",
+    "fail i0\nfinish 10000\n",
+    "fail i1\nfinish 10000\n",
+    "fail i0\nrepair i0\nfinish 10000\n",
+    "fail i0\nfail i1\nrepair i1\nfinish 10000\n",
+];
+
+// Runs one of the failures behind so many events.
+fn outlives(alloc: Global, number: u64, lines: &mut Vec<Outlet>) -> Result<bool, Fail>
+    requires sixteen { length lines.old.items ≡ 16 }
+    requires fresh { AreFresh (views line lines.old.items) (marks lines.old.items) }
+{
+    let failures = FAILURES[(number % 6) as usize];
+    let schedule = events_and(alloc, number / 6, failures)?;
+    comes_through(alloc, schedule.as_slice(), lines)
+}
+
+#[test]
+fn memories_and_io_elements_fail_at_every_event(rt: HostRuntime) -> Result<(), Fail> {
+    let alloc = rt.alloc();
+    for number in 0u64..966 {
+        let mut lines = Vec::new(alloc);
+        for n in 0u8..16 {
+            let line = failing_line(alloc, &[])?;
+            add_line(&mut lines, Box::new(alloc, line)?)?;
+        }
+        assert!(rt; outlives(alloc, number, &mut lines)?, "{}", number);
+    }
+    Ok(())
+}
+
+// So many turns of processor 0, then a strike of one of the registers of a half, 32 being the pc, and the rest of the run.
+fn strike_behind(alloc: Global, turns: u64, strike: u64) -> Result<String, AllocError> {
+    let mut text = String::new(alloc);
+    for _ in 0..turns {
+        text.push_str("turn p0\n")?;
+    }
+    let half = if strike < 32 { "a" } else { "b" };
+    let register = strike % 32 + 1;
+    let line = format!(in alloc; "upset p0 {half} {register} 0x1\nfinish 10000\n")?;
+    text.push_str(&line)?;
+    Ok(text)
+}
+
+// Runs one of the 64 strikes behind so many turns.
+fn is_recovered(alloc: Global, number: u64, lines: &mut Vec<Outlet>) -> Result<bool, Fail>
+    requires sixteen { length lines.old.items ≡ 16 }
+    requires fresh { AreFresh (views line lines.old.items) (marks lines.old.items) }
+{
+    let schedule = strike_behind(alloc, number / 64, number % 64)?;
+    comes_through(alloc, schedule.as_bytes(), lines)
+}
+
+// Alone a processor takes 36 turns: each of the strikes after each of them, and before the first.
+#[test]
+fn a_register_is_struck_at_every_turn(rt: HostRuntime) -> Result<(), Fail> {
+    let alloc = rt.alloc();
+    for number in 0u64..2368 {
+        let mut lines = Vec::new(alloc);
+        for n in 0u8..16 {
+            let line = failing_line(alloc, &[])?;
+            add_line(&mut lines, Box::new(alloc, line)?)?;
+        }
+        assert!(rt; is_recovered(alloc, number, &mut lines)?, "{}", number);
+    }
+    Ok(())
+}
