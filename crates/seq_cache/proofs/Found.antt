@@ -1,11 +1,12 @@
 -- What a search finds in an ascending list, and what a change does at that place.
-use Rattle.std.proofs.Common.{◌≡◌, ℕ, zero, suc, ◌<◌, ◌≤◌, true, List, [], ◌∷◌, length, get_or, set, length-set, Some, None, Result, Ok, Err, is_ok, is_some, IfOk, IfErr, inl, inr, refl, ap, subst, arith}
+use Rattle.std.proofs.Common.{◌≡◌, ℕ, zero, suc, ◌<◌, ◌≤◌, true, List, [], ◌∷◌, length, get_or, set, length-set, Some, None, Result, Ok, Err, is_ok, is_some, IfOk, IfErr, inl, inr, refl, ap, ◌∙◌, subst, arith}
 use Rattle.std.specs.List.{AllWithin, HoldsAt, insert}
 use Rattle.std.specs.List.Sorted.{IsSearchInRange, IsBinarySearchResult, IsNonDecreasingBy}
 use Rattle.std.specs.Ordering.{nat_cmp, ordering_then, ordering_index}
 use Rattle.std.specs.declared.cmp.Ordering.{Ordering}
 use Rattle.std.specs.declared.cmp.Ordering.TheVariants.{Less, Equal, Greater}
 use Rattle.std.proofs.lemmas.List.Edits.{length-insert}
+use Rattle.std.proofs.lemmas.List.{get_or_default}
 use Rattle.std.proofs.lemmas.Bool.{cases_order}
 use Rattle.std.proofs.lemmas.Bool.Decides.{nat_tests}
 use Rattle.seq_words.specs.Blocks.{zero_block}
@@ -139,6 +140,25 @@ module _ (cs : List Change) (up : IsAscending cs) (e n : ℕ) where
           put = λ b. put_in_gap cs e n at b gap;
         };
       }
+
+-- a change that is of a block stands there
+pub stands : (cs : List Change) (e n i : ℕ) (c : Change) → IsAscending cs → i < length cs → get_or cs i c ≡ c → c.extent.0 ≡ e → c.place ≡ n → standing.StandsAt cs e n i
+stands cs e n i c up inside there extent place =
+    let here : (d : Change) → get_or cs i d ≡ c = λ d. get_or_default cs i d c inside ∙ there in
+    let at : StandsAt cs e n i = record {
+      inside = inside;
+      extent = λ d. ap (λ (x : Change). x.extent.0) (here d) ∙ extent;
+      place = λ d. ap (λ (x : Change). x.place) (here d) ∙ place;
+    } in
+    record {
+      inside = inside;
+      block = λ none. changed_at cs e n i none up at;
+      put = λ b. put_at cs e n i b up at;
+    }
+
+-- and the block is changed
+pub standing_is_changed : (cs : List Change) (e n i : ℕ) → standing.StandsAt cs e n i → is_some (changed cs e n) ≡ true
+standing_is_changed cs e n i at = rw (at.block (change e n zero_block)) refl
 
 -- what is true of every cache stays true where a change replaces that of its block
 pub replaced_fits : (capacity : ℕ) (cs : List Change) (e n i : ℕ) (b : Block) → IsCache (record { capacity = capacity; changes = cs }) → standing.StandsAt cs e n i → IsCache (record { capacity = capacity; changes = set cs i (change e n b) })

@@ -1,9 +1,8 @@
 -- What is read through a cache follows what is read from first copies.
-use Rattle.std.proofs.Common.{◌≡◌, ℕ, Bool, true, false, not, List, Some, None, unwrap_or, ap, ◌∙◌}
+use Rattle.std.proofs.Common.{◌≡◌, ℕ, Bool, true, false, not, List, unwrap_or, ap, ◌∙◌}
 use Rattle.seq_words.specs.declared.block.Block.{Block}
 use Rattle.seq_layout.specs.Shapes.{Shape}
 use Rattle.seq_layout.specs.Copies.{Copies, first_copy, first_block, with_state, block_written, word_written, failed}
-use Rattle.seq_layout.specs.Firsts.{IsReadAsBefore, IsReadFrom}
 use Rattle.seq_layout.proofs.CopiesWritten.{word_states, word_blocks}
 use Rattle.seq_layout.proofs.FirstCopies.{serves_still, state_is_read_by, failure_is_read_by, written_elsewhere}
 use Rattle.seq_cache.specs.declared.change.Change.{Change}

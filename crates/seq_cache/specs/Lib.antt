@@ -1,5 +1,6 @@
 pub mod Changes
 pub mod Standing
+pub mod Marks
 pub mod Overlay
 pub mod Reads
 pub mod Laws

@@ -1,10 +1,11 @@
 // The cache of a processor, as a sorted vector.
-ghost use Rattle.std.specs.Prelude.{◌≡◌, ℕ, ◌+◌, ◌<◌, ◌≤◌, ◌↔◌, ◌==◌, ◌&&◌, if◌then◌else◌, is_ok, is_some, [], insert, length, slice_get, slice_set, vec_len, vec_capacity, Some, None, IfOk, IfErr, IfSome, OnOk, OnErr, IsTrue, IsErr};
+ghost use Rattle.std.specs.Prelude.{◌≡◌, ℕ, ◌+◌, ◌<◌, ◌≤◌, ◌↔◌, ◌==◌, ◌&&◌, if◌then◌else◌, true, false, is_ok, is_some, [], insert, length, slice_get, slice_set, vec_len, vec_capacity, Some, None, IfOk, IfErr, IfSome, OnOk, OnErr, IsTrue, IsErr};
 ghost use Rattle.std.specs.Option.{option_copied};
 ghost use Rattle.std.specs.Vec.{SameBlock};
 ghost use Rattle.seq_layout.specs.Places.{IsPlace};
 ghost use Rattle.seq_layout.specs.Copies.{Matches, copies, IsServed};
 ghost use Rattle.seq_cache.specs.Changes.{IsCache, admits, changed, with_change};
+ghost use Rattle.seq_cache.specs.Marks.{mark_of, AreMarked};
 ghost use Rattle.seq_cache.specs.Standing.{StandsAt, IsGapFor};
 ghost use Rattle.seq_cache.specs.Overlay.{overlay};
 
@@ -15,12 +16,18 @@ use seq_words::{Block, NoMemory};
 use std::alloc::Global;
 use std::marker::Model;
 
+/// How many marks blocks have. Several blocks may have one mark.
+const MARKS: usize = 1024;
+
 /// The blocks that were changed since the last checkpoint, in ascending order of extent, then place.
 #[derive(Drop)]
 pub struct Cache {
     capacity: u16,
     // It has room for `capacity` changes from the start.
     changes: Vec<Change>,
+    // By mark: 0 where no changed block has it. Else one more than the place where the last change of such a block was put, which
+    // others may have moved on since.
+    hints: [u16; MARKS],
 }
 
 /// A block was refused: as many blocks are changed as there may be.
@@ -35,18 +42,30 @@ pub struct Full {
 impl Model for Cache {
     ghost use Rattle.std.specs.Prelude.{◌≤◌, vec_capacity};
     ghost use Rattle.seq_cache.specs.Changes.{Changes, IsCache};
+    ghost use Rattle.seq_cache.specs.Marks.{AreMarked};
 
     ghost Value = { Changes };
 
     ghost view = { λ c. record { capacity = c.capacity; changes = c.changes.items } };
 
-    ghost invariant = { λ c. IsCache (record { capacity = c.capacity; changes = c.changes.items }) × (c.capacity ≤ vec_capacity c.changes) };
+    ghost invariant = { λ c. IsCache (record { capacity = c.capacity; changes = c.changes.items }) × (c.capacity ≤ vec_capacity c.changes) × AreMarked c.changes.items c.hints };
 }
 
 // The length of a block's bytes, which a clause learns only where they are passed.
 fn all_bytes(bytes: &[u8; 32])
     ensures { length bytes.now ≡ 32 }
 {}
+
+// The mark of a block.
+#[tactic(auto, using(crate::proofs::Marked::mark_within))]
+fn mark_of(extent: Extent, n: u32) -> usize
+    ensures mark { result ≡ mark_of extent.0 n }
+    ensures within { result < 1024 }
+{
+    let extent = extent.0 as usize % MARKS;
+    let place = n as usize % MARKS;
+    (97 * extent + place) % MARKS
+}
 
 // Puts a change in place of another. The vector stays in its block of memory.
 fn set_in_place(changes: &mut Vec<Change>, at: usize, change: Change)
@@ -77,13 +96,18 @@ fn clear_in_place(changes: &mut Vec<Change>)
 
 impl Cache {
     /// No block is changed, and at most `capacity` may be. It takes all the memory that the cache will ever need.
+    #[tactic(auto, using(crate::proofs::Marked::none_marked))]
     pub fn new(alloc: Global, capacity: u16) -> Result<Cache, NoMemory>
         ensures { IfOk result (λ c. c ≡ record { capacity = capacity; changes = [] }) }
     {
         let Ok(changes) = Vec::with_capacity(alloc, usize::from(capacity)) else {
             return Err(NoMemory);
         };
-        Ok(Cache { capacity, changes })
+        Ok(Cache {
+            capacity,
+            changes,
+            hints: [0; MARKS],
+        })
     }
 
     /// How many blocks are changed.
@@ -112,6 +136,9 @@ impl Cache {
         ensures found { option_copied result ≡ changed self.now.changes extent.0 n }
         ensures whole { IfSome result (λ block. length block.now.bytes ≡ 32) }
     {
+        if !self.is_marked(extent, n) {
+            return None;
+        }
         match self.search(extent, n) {
             Ok(at) => {
                 let block = &self.changes[at].block;
@@ -148,7 +175,7 @@ impl Cache {
     pub fn admits(&self, extent: Extent, n: u32) -> bool
         ensures { result ≡ admits self.now extent.0 n }
     {
-        self.search(extent, n).is_ok() || self.room(1)
+        self.room(1) || self.find(extent, n).is_some()
     }
 
     /// Changes a block. It is refused where the block isn't changed yet and as many are as may be.
@@ -181,14 +208,50 @@ impl Cache {
     }
 
     /// No block is changed any more.
+    #[tactic(auto, using(crate::proofs::Marked::none_marked))]
     pub fn clear(&mut self)
         ensures { self.new ≡ record self.old { changes = [] } }
     {
         clear_in_place(&mut self.changes);
+        self.hints = [0; MARKS];
     }
 
-    // Where the change of a block stands, or else where it would stand.
+    // Whether a block may be changed, as its mark says.
+    #[tactic(auto, using(crate::proofs::Marked::unmarked))]
+    fn is_marked(&self, extent: Extent, n: u32) -> bool
+        ensures { result ≡ false → changed self.now.changes extent.0 n ≡ None }
+    {
+        self.hints[mark_of(extent, n)] != 0
+    }
+
+    // Whether the change at a place, which may be any, is of this block.
+    #[tactic(auto, using(crate::proofs::Found::stands))]
+    fn is_at(&self, at: usize, extent: Extent, n: u32) -> bool
+        ensures { result ≡ true → StandsAt self.now.changes extent.0 n at }
+    {
+        if at >= self.changes.len() {
+            return false;
+        }
+        let change = &self.changes[at];
+        change.extent.0 == extent.0 && change.place == n
+    }
+
+    // Where the change of a block stands, or else where it would stand. It looks first where the block's hint says.
+    #[tactic(auto, using(crate::proofs::Found::standing_is_changed))]
     fn search(&self, extent: Extent, n: u32) -> Result<usize, usize>
+        ensures variant { is_ok result ≡ is_some (changed self.now.changes extent.0 n) }
+        ensures found { IfOk result (StandsAt self.now.changes extent.0 n) }
+        ensures absent { IfErr result (IsGapFor self.now.changes extent.0 n) }
+    {
+        let hinted = (self.hints[mark_of(extent, n)] as usize).wrapping_sub(1);
+        if self.is_at(hinted, extent, n) {
+            return Ok(hinted);
+        }
+        self.halve(extent, n)
+    }
+
+    // The same, by halving.
+    fn halve(&self, extent: Extent, n: u32) -> Result<usize, usize>
         ensures variant { is_ok result ≡ is_some (changed self.now.changes extent.0 n) }
         ensures found { IfOk result (StandsAt self.now.changes extent.0 n) }
         ensures absent { IfErr result (IsGapFor self.now.changes extent.0 n) }
@@ -204,6 +267,7 @@ impl Cache {
         ensures cache { IsCache self.new }
     {
         set_in_place(&mut self.changes, at, change);
+        self.hints[mark_of(change.extent, change.place)] = at as u16 + 1;
     }
 
     // Puts in the change of a further block. There is room for it, so it takes no memory.
@@ -214,5 +278,6 @@ impl Cache {
         ensures cache { IsCache self.new }
     {
         insert_in_place(&mut self.changes, at, change);
+        self.hints[mark_of(change.extent, change.place)] = at as u16 + 1;
     }
 }

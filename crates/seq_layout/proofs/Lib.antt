@@ -2,6 +2,7 @@ pub mod Apart
 pub mod Sizes
 pub mod Totals
 pub mod Rows
+pub mod Sites
 pub mod Owners
 pub mod UnitLists
 pub mod UnitParts

@@ -2,7 +2,7 @@
 ghost use Rattle.std.specs.Prelude.{◌≡◌, ℕ, ◌+◌, ◌%◌, ◌<◌, ◌≤◌, ◌^◌, length, slice_index, IfOk, MatchOption};
 ghost use Rattle.std.specs.List.Sorted.{IsNonDecreasing};
 ghost use Rattle.seq_layout.specs.Places.{memory_of, keeps, start_of, place_of, IsPlace};
-ghost use Rattle.seq_layout.specs.Tables.{Spread, IsRow, IsCount, IsPart};
+ghost use Rattle.seq_layout.specs.Tables.{Spread, IsRow, IsCount, IsPart, site_of, sites_of};
 
 use crate::Extent;
 use seq_words::{Items, Me, NoMemory};
@@ -20,6 +20,23 @@ fn memory_after(memory: u32, memories: u32) -> u32
     } else {
         memory + 1
     }
+}
+
+// The memory of a copy of an extent.
+#[tactic(auto, using(crate::proofs::Apart::next_memory))]
+fn memory_of(memories: u8, extent: Extent, shadow: bool) -> Me
+    requires { 2 ≤ memories }
+    ensures memory { result.0 ≡ memory_of memories extent.0 shadow }
+    ensures within { result.0 < memories }
+{
+    let memories = memories as u32;
+    let primary = extent.0 % memories;
+    let memory = if shadow {
+        memory_after(primary, memories)
+    } else {
+        primary
+    };
+    Me(memory as u8)
 }
 
 // Whether a memory keeps a copy of an extent.
@@ -74,6 +91,56 @@ fn count_up_to(starts: &[u32], place: u32) -> usize
     starts.partition_point(|start| *start <= place)
 }
 
+/// Where a copy of an extent stands: its memory, and the place there of the extent's first part.
+#[derive(Clone, Copy)]
+pub struct Site {
+    memory: Me,
+    start: u32,
+}
+
+/// Where the two copies of an extent stand.
+#[derive(Clone, Copy)]
+pub struct Sites {
+    primary: Site,
+    shadow: Site,
+}
+
+// Where a copy of an extent stands.
+fn site_of(memories: u8, sizes: &[u32], extent: usize, shadow: bool) -> Site
+    requires enough { 2 ≤ memories }
+    requires inside { extent < length sizes.now }
+    requires small { length sizes.now < 2 ^ 32 }
+    requires fits { (m : ℕ) → m < memories → start_of memories sizes.now m (length sizes.now) < 2 ^ 32 }
+    ensures { result ≡ site_of (record { memories = memories; sizes = sizes.now }) extent shadow }
+{
+    let memory = memory_of(memories, Extent(extent as u32), shadow);
+    Site {
+        memory,
+        start: start_of(memories, sizes, memory.0, extent),
+    }
+}
+
+// Where the copies of all extents stand.
+#[tactic(auto, using(crate::proofs::Sites::one_more))]
+fn sites_of(alloc: Global, memories: u8, sizes: &[u32]) -> Result<Items<Sites>, NoMemory>
+    requires enough { 2 ≤ memories }
+    requires small { length sizes.now < 2 ^ 32 }
+    requires fits { (m : ℕ) → m < memories → start_of memories sizes.now m (length sizes.now) < 2 ^ 32 }
+    ensures { IfOk result (λ sites. sites ≡ sites_of (record { memories = memories; sizes = sizes.now })) }
+{
+    let mut sites = Items::new(alloc);
+    for extent in 0..sizes.len() {
+        let both = Sites {
+            primary: site_of(memories, sizes, extent, false),
+            shadow: site_of(memories, sizes, extent, true),
+        };
+        if sites.push(both).is_err() {
+            return Err(NoMemory);
+        }
+    }
+    Ok(sites)
+}
+
 /// How many parts each extent has, and where they start in each memory.
 #[derive(Drop)]
 pub struct Starts {
@@ -81,6 +148,8 @@ pub struct Starts {
     sizes: Items<u32>,
     // by memory and extent, and at the end of each row how much the memory keeps
     starts: Items<Items<u32>>,
+    // by extent
+    sites: Items<Sites>,
 }
 
 impl Model for Starts {
@@ -90,7 +159,7 @@ impl Model for Starts {
 
     ghost view = { λ s. record { memories = s.memories; sizes = s.sizes } };
 
-    ghost invariant = { λ s. AreStarts (record { memories = s.memories; sizes = s.sizes }) s.starts };
+    ghost invariant = { λ s. AreStarts (record { memories = s.memories; sizes = s.sizes }) s.starts s.sites };
 }
 
 impl Starts {
@@ -108,10 +177,12 @@ impl Starts {
                 return Err(NoMemory);
             }
         }
+        let sites = sites_of(alloc, memories, sizes.as_slice())?;
         Ok(Starts {
             memories,
             sizes,
             starts,
+            sites,
         })
     }
 
@@ -130,20 +201,29 @@ impl Starts {
         self.sizes.len()
     }
 
+    // Where a copy of an extent stands.
+    #[tactic(auto, using(crate::proofs::Sites::all, crate::proofs::Sites::found, crate::proofs::Sites::is_inside))]
+    fn site(&self, extent: Extent, shadow: bool) -> Site
+        requires { extent.0 < length self.now.sizes }
+        ensures site { result ≡ site_of self.now extent.0 shadow }
+        ensures within { result.memory.0 < self.now.memories }
+        ensures fits { result.start + slice_index self.now.sizes extent.0 < 2 ^ 32 }
+        ensures enough { 2 ≤ self.now.memories }
+    {
+        let sites = self.sites.at(extent.0 as usize);
+        if shadow { sites.shadow } else { sites.primary }
+    }
+
     /// The memory of a copy of an extent.
-    #[tactic(auto, using(crate::proofs::Apart::next_memory))]
     pub fn memory(&self, extent: Extent, shadow: bool) -> Me
         ensures memory { result.0 ≡ memory_of self.now.memories extent.0 shadow }
         ensures within { result.0 < self.now.memories }
     {
-        let memories = self.memories as u32;
-        let primary = extent.0 % memories;
-        let memory = if shadow {
-            memory_after(primary, memories)
+        if (extent.0 as usize) < self.extents() {
+            self.site(extent, shadow).memory
         } else {
-            primary
-        };
-        Me(memory as u8)
+            memory_of(self.memories, extent, shadow)
+        }
     }
 
     // The starts of all extents in a memory, and after them how much it keeps of all.
@@ -174,8 +254,8 @@ impl Starts {
         ensures within { result.0.0 < self.now.memories }
         ensures enough { 2 ≤ self.now.memories }
     {
-        let memory = self.memory(extent, shadow);
-        (memory, self.row(memory)[extent.0 as usize] + n)
+        let Site { memory, start } = self.site(extent, shadow);
+        (memory, start + n)
     }
 
     /// How many parts an extent has.
