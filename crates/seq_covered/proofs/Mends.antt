@@ -7,12 +7,13 @@ use Rattle.seq_words.specs.declared.description.MachineDesc.{MachineDesc}
 use Rattle.seq_words.specs.declared.events.Event.{Event}
 use Rattle.seq_turns.specs.declared.hand.Hand.{Hand}
 use Rattle.seq_turns.specs.declared.hand.Hand.TheVariants as hand
-use Rattle.seq_turns.specs.declared.recovery.RecoveryAt.{RecoveryAt}
-use Rattle.seq_turns.specs.declared.recovery.RecoveryAt.TheVariants as recovery
+use Rattle.seq_turns.specs.declared.hand.RecoveryAt.{RecoveryAt}
+use Rattle.seq_turns.specs.declared.hand.RecoveryAt.TheVariants as recovery
 use Rattle.seq_turns.specs.Machines.{Machine, Move}
 use Rattle.seq_turns.specs.Machines.Turn.{Moves}
 use Rattle.seq_turns.specs.Reading.{copied_memory, is_amid, goes_forward, ruling as status_now}
-use Rattle.seq_turns.specs.Recoveries.{begins, recovers, left_from, locks_cleared, recovery_move}
+use Rattle.seq_recover.specs.Reading.{left_from}
+use Rattle.seq_turns.specs.Recoveries.{begins, recovers, locks_cleared, recovery_move}
 use Rattle.seq_turns.specs.Processors.{deserted, seeks, seeks_or_copies, turn}
 use Rattle.seq_turns.specs.Allowed.{Allowed}
 use Rattle.seq_turns.specs.Events.{after_turn, happens}

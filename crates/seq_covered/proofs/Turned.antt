@@ -29,8 +29,8 @@ use Rattle.seq_turns.specs.declared.hand.Hand.TheVariants as hand
 use Rattle.seq_turns.specs.declared.hand.FlushAt.{FlushAt}
 use Rattle.seq_turns.specs.declared.hand.FlushAt.TheVariants as flush
 use Rattle.seq_turns.specs.declared.hand.ReleaseAt.TheVariants as release
-use Rattle.seq_turns.specs.declared.recovery.RecoveryAt.{RecoveryAt}
-use Rattle.seq_turns.specs.declared.recovery.RecoveryAt.TheVariants as recovery
+use Rattle.seq_turns.specs.declared.hand.RecoveryAt.{RecoveryAt}
+use Rattle.seq_turns.specs.declared.hand.RecoveryAt.TheVariants as recovery
 use Rattle.seq_turns.specs.Functions.{lowest, update}
 use Rattle.seq_turns.specs.Machines.{Machine, Move, Turn, idles}
 use Rattle.seq_turns.specs.Machines.Turn.{Moves, Looks, Copies_unit, Stops}
@@ -38,7 +38,8 @@ use Rattle.seq_turns.specs.Reading.{lock_word, context_of, copied_memory}
 use Rattle.seq_turns.specs.Causes as causes
 use Rattle.seq_turns.specs.Causes.{after_releases, release_next, follows, agree, flushes, finds}
 use Rattle.seq_turns.specs.Operations.{taken_up, less, unit_count, flush_move}
-use Rattle.seq_turns.specs.Recoveries.{recovery_move, left_from, locks_cleared}
+use Rattle.seq_recover.specs.Reading.{left_from}
+use Rattle.seq_turns.specs.Recoveries.{recovery_move, locks_cleared}
 use Rattle.seq_turns.specs.Processors.{is_free, deserted, seeks, acquisition, after_step, runs, someone_amid, copies_or_waits, seeks_or_copies, runs_or_copies, turn}
 use Rattle.seq_turns.specs.Duties.{rests}
 use Rattle.seq_turns.specs.Allowed.{Allowed}

@@ -6,9 +6,9 @@ use Rattle.seq_layout.specs.Shapes.{shape_of, segment_extent}
 use Rattle.seq_layout.specs.Copies.{serves}
 use Rattle.seq_image.proofs.Areas.{area_cases}
 use Rattle.seq_turns.specs.declared.hand.Hand.TheVariants as hand
-use Rattle.seq_turns.specs.declared.recovery.RecoveryAt.{RecoveryAt}
+use Rattle.seq_turns.specs.declared.hand.RecoveryAt.{RecoveryAt}
 use Rattle.seq_turns.specs.Machines.{Machine}
-use Rattle.seq_turns.specs.Recoveries.{names}
+use Rattle.seq_recover.specs.Reading.{names}
 use Rattle.seq_stands.specs.Words.{words_of, WordsStand}
 use Rattle.seq_stands.specs.Locks.{lock_view, LockClaims, LocksStand}
 use Rattle.seq_stands.specs.Locks.Hold.{Whole}

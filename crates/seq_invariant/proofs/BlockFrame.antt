@@ -17,11 +17,11 @@ use Rattle.seq_image.proofs.Areas.{area_cases, process_in_area, segment_in_area}
 use Rattle.seq_image.proofs.ImageBlocks.{place_test}
 use Rattle.seq_turns.specs.declared.hand.Hand.{Hand}
 use Rattle.seq_turns.specs.declared.hand.Hand.TheVariants as hand
-use Rattle.seq_turns.specs.declared.recovery.RecoveryAt.{RecoveryAt}
-use Rattle.seq_turns.specs.declared.recovery.RecoveryAt.TheVariants as recovery
+use Rattle.seq_turns.specs.declared.hand.RecoveryAt.{RecoveryAt}
+use Rattle.seq_turns.specs.declared.hand.RecoveryAt.TheVariants as recovery
 use Rattle.seq_turns.specs.Machines.{Machine, Change, Move, copies_after, after_move}
 use Rattle.seq_io.specs.Changes.Change.{Unchanged, To_block, To_word}
-use Rattle.seq_turns.specs.Recoveries.{names, blocks_in, blocks_below, recovered_blocks}
+use Rattle.seq_recover.specs.Reading.{names, blocks_in, blocks_below, recovered_blocks}
 use Rattle.seq_turns.proofs.Functions.{update_same, update_other, update_cases, copy_elsewhere}
 use Rattle.seq_invariant.specs.BlockAreas.{hand_area, left_area, Rests}
 use Rattle.seq_invariant.specs.BlockWorks.{Committed, committed_blocks}

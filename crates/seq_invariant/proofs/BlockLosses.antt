@@ -11,8 +11,8 @@ use Rattle.seq_layout.specs.Copies.{Copies, serves}
 use Rattle.seq_image.specs.Flushing.{KeepsCopies}
 use Rattle.seq_turns.specs.declared.hand.Hand.{Hand}
 use Rattle.seq_turns.specs.declared.hand.Hand.TheVariants as hand
-use Rattle.seq_turns.specs.declared.recovery.RecoveryAt.{RecoveryAt}
-use Rattle.seq_turns.specs.declared.recovery.RecoveryAt.TheVariants as recovery
+use Rattle.seq_turns.specs.declared.hand.RecoveryAt.{RecoveryAt}
+use Rattle.seq_turns.specs.declared.hand.RecoveryAt.TheVariants as recovery
 use Rattle.seq_turns.specs.Machines.{Machine}
 use Rattle.seq_turns.specs.Events.{lost_copies}
 use Rattle.seq_turns.proofs.Functions.{update_same, update_other}

@@ -9,7 +9,8 @@ use Rattle.seq_layout.specs.Copies.{Copies, serves}
 use Rattle.seq_image.proofs.Areas.{area_cases}
 use Rattle.seq_turns.specs.Machines.{copies_after}
 use Rattle.seq_io.specs.Changes.Change.{Unchanged, To_block}
-use Rattle.seq_turns.specs.Recoveries.{names, blocks_in, blocks_below, recovered_blocks, copied_over}
+use Rattle.seq_recover.specs.Reading.{names, blocks_in, blocks_below, recovered_blocks}
+use Rattle.seq_turns.specs.Recoveries.{copied_over}
 use Rattle.seq_turns.proofs.Functions.{copy_same, copy_other, copy_elsewhere, copy_other_part}
 use Rattle.seq_invariant.specs.BlockAreas.{left_area}
 use Rattle.seq_invariant.specs.BlockWorks.{Committed}
@@ -22,8 +23,8 @@ use Rattle.seq_words.specs.Blocks.{zero_block}
 use Rattle.seq_layout.specs.Places.{is_place}
 use Rattle.seq_image.specs.Areas.{CopyHolds}
 use Rattle.seq_image.proofs.ImageBlocks.{place_of_test}
-use Rattle.seq_turns.specs.declared.recovery.RecoveryAt.TheVariants as recovery
-use Rattle.seq_turns.specs.Recoveries.{into_stage}
+use Rattle.seq_turns.specs.declared.hand.RecoveryAt.TheVariants as recovery
+use Rattle.seq_recover.specs.Turns.{into_stage}
 use Rattle.seq_invariant.specs.BlockAreas.{Rests}
 use Rattle.seq_invariant.specs.BlockWorks.{committed_blocks}
 use Rattle.seq_invariant.specs.BlockHands.{RecoveryKnows}

@@ -13,7 +13,7 @@ use Rattle.seq_turns.specs.declared.hand.Hand.{Hand}
 use Rattle.seq_turns.specs.declared.hand.Hand.TheVariants as hand
 use Rattle.seq_turns.specs.declared.hand.FlushAt.{FlushAt}
 use Rattle.seq_turns.specs.declared.hand.FlushAt.TheVariants as flush
-use Rattle.seq_turns.specs.declared.recovery.RecoveryAt.{RecoveryAt}
+use Rattle.seq_turns.specs.declared.hand.RecoveryAt.{RecoveryAt}
 use Rattle.seq_invariant.specs.BlockAreas.{hand_area, segments_of, BothHold}
 use Rattle.seq_invariant.specs.BlockWorks.{Committed, committed_blocks, with_commit}
 use Rattle.seq_invariant.specs.BlockHands.{Runs, Closes, FlushKnows, RecoveryKnows, HandKnows}

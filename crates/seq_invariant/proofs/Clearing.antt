@@ -8,19 +8,21 @@ use Rattle.seq_words.specs.declared.events.Event.{Event}
 use Rattle.seq_layout.specs.Shapes.{shape_of, segment_extent}
 use Rattle.seq_layout.specs.Copies.{serves}
 use Rattle.seq_turns.specs.declared.hand.Hand.TheVariants as hand
-use Rattle.seq_turns.specs.declared.recovery.Recovery.{Recovery}
-use Rattle.seq_turns.specs.declared.recovery.Locks as locks_stage
-use Rattle.seq_turns.specs.declared.recovery.Closing as closing_stage
-use Rattle.seq_turns.specs.declared.recovery.RecoveryAt.{RecoveryAt}
-use Rattle.seq_turns.specs.declared.recovery.RecoveryAt.TheVariants as recovery
+use Rattle.seq_recover.specs.declared.recovery.Recovery.{Recovery}
+use Rattle.seq_recover.specs.declared.recovery.Locks as locks_stage
+use Rattle.seq_recover.specs.declared.recovery.Closing as closing_stage
+use Rattle.seq_turns.specs.declared.hand.RecoveryAt.{RecoveryAt}
+use Rattle.seq_turns.specs.declared.hand.RecoveryAt.TheVariants as recovery
 use Rattle.seq_turns.specs.Machines.{Machine, Change, Move, copies_after, after_move}
 use Rattle.seq_turns.specs.Machines.Turn.{Moves}
 use Rattle.seq_io.specs.Changes.Change.{Unchanged, To_word}
 use Rattle.seq_turns.specs.Reading.{context_of, write_word}
 use Rattle.seq_turns.specs.Operations.{goes}
-use Rattle.seq_turns.specs.Recoveries.{into_stage, names, is_shadow, left_from, after_clearing, locks_cleared, locks_move, closing_move}
+use Rattle.seq_recover.specs.Reading.{names, is_shadow, left_from}
+use Rattle.seq_recover.specs.Turns.{into_stage}
+use Rattle.seq_turns.specs.Recoveries.{after_clearing, locks_cleared, locks_move, closing_move}
 use Rattle.seq_turns.proofs.Functions.{update_same}
-use Rattle.seq_turns.proofs.LeftFrom.{left_passes}
+use Rattle.seq_recover.proofs.LeftFrom.{left_passes}
 use Rattle.seq_stands.specs.Grips.{grip}
 use Rattle.seq_stands.specs.Grips.Grip.{On}
 use Rattle.seq_stands.specs.Words.{words_of, view_of, ruling, AllUp, IsDeserted, GripHolds, WordsStand}

@@ -26,7 +26,7 @@ use Rattle.seq_turns.specs.Functions.{update}
 use Rattle.seq_turns.specs.Reading.{is_amid, is_copied}
 use Rattle.seq_turns.specs.Recoveries.{next_of, unit_taken, with_unit, unit_copied, copy_on}
 use Rattle.seq_turns.specs.declared.hand.Hand.TheVariants as hand
-use Rattle.seq_turns.specs.declared.recovery.RecoveryAt.{RecoveryAt}
+use Rattle.seq_turns.specs.declared.hand.RecoveryAt.{RecoveryAt}
 use Rattle.seq_turns.proofs.Functions.{update_same, update_other}
 use Rattle.seq_stands.specs.Grips.{Kind, word}
 use Rattle.seq_stands.specs.Words.{words_of, ruling, Ruled, WordsStand}

@@ -9,7 +9,7 @@ use Rattle.seq_layout.proofs.CopiesLaws.{all_are_served}
 use Rattle.seq_image.specs.Areas.{in_area, owned_by}
 use Rattle.seq_image.proofs.Areas.{area_cases}
 use Rattle.seq_turns.specs.Machines.{Machine}
-use Rattle.seq_turns.specs.Recoveries.{names}
+use Rattle.seq_recover.specs.Reading.{names}
 use Rattle.seq_stands.specs.Standing.{Stands}
 use Rattle.seq_stands.specs.Locks.{lock_view, NamesOwner, LockClaims, LocksStand}
 use Rattle.seq_stands.specs.Locks.Hold.{Whole}

@@ -16,7 +16,7 @@ use Rattle.seq_locks.specs.Turns.{is_taken}
 use Rattle.seq_image.proofs.Areas.{area_cases}
 use Rattle.seq_turns.specs.declared.hand.Hand.TheVariants as hand
 use Rattle.seq_turns.specs.Machines.{Machine}
-use Rattle.seq_turns.specs.Recoveries.{names}
+use Rattle.seq_recover.specs.Reading.{names}
 use Rattle.seq_stands.specs.Grips.{grip}
 use Rattle.seq_stands.specs.Grips.Kind.{Run}
 use Rattle.seq_stands.specs.Grips.Stage.{Holding}

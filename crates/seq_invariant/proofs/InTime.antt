@@ -29,14 +29,16 @@ use Rattle.seq_turns.specs.declared.hand.Hand.TheVariants as hand
 use Rattle.seq_turns.specs.declared.hand.FlushAt.{FlushAt}
 use Rattle.seq_turns.specs.declared.hand.FlushAt.TheVariants as flush
 use Rattle.seq_turns.specs.declared.hand.ReleaseAt.TheVariants as release
-use Rattle.seq_turns.specs.declared.recovery.RecoveryAt.{RecoveryAt}
-use Rattle.seq_turns.specs.declared.recovery.RecoveryAt.TheVariants as recovery
+use Rattle.seq_turns.specs.declared.hand.RecoveryAt.{RecoveryAt}
+use Rattle.seq_turns.specs.declared.hand.RecoveryAt.TheVariants as recovery
 use Rattle.seq_turns.specs.Machines.{Machine, Change, Move, Turn, idles, words_after}
 use Rattle.seq_turns.specs.Machines.Turn.{Moves, Looks, Copies_unit, Stops}
 use Rattle.seq_turns.specs.Reading.{status_word, lock_word, holder, write_word, copied_memory}
 use Rattle.seq_turns.specs.Causes.{agree, released, flushes, finds}
 use Rattle.seq_turns.specs.Operations.{flush_move, unit_count}
-use Rattle.seq_turns.specs.Recoveries.{recovery_word, left_from, locks_cleared, copied_over, recovery_move, copy_on, unit_taken}
+use Rattle.seq_recover.specs.Reading.{left_from}
+use Rattle.seq_recover.specs.Turns.{recovery_word}
+use Rattle.seq_turns.specs.Recoveries.{locks_cleared, copied_over, recovery_move, copy_on, unit_taken}
 use Rattle.seq_turns.specs.Processors.{is_free, deserted, seeks, after_step, runs, someone_amid, copies_or_waits, seeks_or_copies, runs_or_copies, turn}
 use Rattle.seq_turns.specs.Duties.{duty, after_duty, rests}
 use Rattle.seq_turns.specs.Events.{is_down, stopped, after_turn, happens}

@@ -23,12 +23,12 @@ use Rattle.seq_image.proofs.Writing.{what_is_left_stays}
 use Rattle.seq_turns.specs.declared.hand.Hand.{Hand}
 use Rattle.seq_turns.specs.declared.hand.Hand.TheVariants as hand
 use Rattle.seq_turns.specs.declared.hand.FlushAt.TheVariants as flush
-use Rattle.seq_turns.specs.declared.recovery.RecoveryAt.TheVariants as recovery
+use Rattle.seq_turns.specs.declared.hand.RecoveryAt.TheVariants as recovery
 use Rattle.seq_turns.specs.Functions.{update_copy}
 use Rattle.seq_turns.specs.Machines.{Machine, Change, copies_after, blocks_after, words_after}
 use Rattle.seq_io.specs.Changes.Change.{Unchanged, To_block, To_word}
 use Rattle.seq_turns.specs.Reading.{ruling, status_in, is_deserted}
-use Rattle.seq_turns.specs.Recoveries.{names, blocks_in, blocks_below, recovered_blocks}
+use Rattle.seq_recover.specs.Reading.{names, blocks_in, blocks_below, recovered_blocks}
 use Rattle.seq_turns.specs.Duties.{Duty, duty, after_duty, rests, tells_sent, takes, closes, goal, is_below, is_at, differs, may_send, journals}
 use Rattle.seq_turns.proofs.Functions.{copy_elsewhere}
 use Rattle.seq_stands.specs.Grips.{grip}

@@ -7,12 +7,12 @@ use Rattle.seq_layout.specs.Shapes.{shape_of, segment_extent}
 use Rattle.seq_layout.specs.Copies.{Copies, serves, first_copy}
 use Rattle.seq_turns.specs.declared.hand.Hand.{Hand}
 use Rattle.seq_turns.specs.declared.hand.Hand.TheVariants as hand
-use Rattle.seq_turns.specs.declared.recovery.RecoveryAt.{RecoveryAt}
+use Rattle.seq_turns.specs.declared.hand.RecoveryAt.{RecoveryAt}
 use Rattle.seq_turns.specs.Functions.{update}
 use Rattle.seq_turns.specs.Machines.{Machine, Change, Move, words_after, blocks_after, copies_after, after_move}
 use Rattle.seq_io.specs.Changes.Change.{Unchanged, To_word}
 use Rattle.seq_turns.specs.Reading.{status_in, ruling, is_deserted, write_word}
-use Rattle.seq_turns.specs.Recoveries.{names}
+use Rattle.seq_recover.specs.Reading.{names}
 use Rattle.seq_turns.proofs.Functions.{update_same, update_other, copy_same, copy_other, copy_elsewhere}
 use Rattle.seq_stands.proofs.Changes.{LeavesOthers, leaves_others, lock_leaves}
 use Rattle.seq_stands.proofs.LockTurns.{OnlyOf}

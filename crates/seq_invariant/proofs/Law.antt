@@ -10,9 +10,9 @@ use Rattle.seq_words.specs.declared.events.Event.TheVariants as event
 use Rattle.seq_kernel.specs.declared.outcomes.Note.TheVariants.{Nothing, Held}
 use Rattle.seq_turns.specs.declared.hand.Hand.{Hand}
 use Rattle.seq_turns.specs.declared.hand.Hand.TheVariants as hand
-use Rattle.seq_turns.specs.declared.recovery.RecoveryAt.{RecoveryAt}
+use Rattle.seq_turns.specs.declared.hand.RecoveryAt.{RecoveryAt}
 use Rattle.seq_process.specs.declared.running.Running.{Running}
-use Rattle.seq_turns.specs.declared.recovery.RecoveryAt.TheVariants as recovery
+use Rattle.seq_turns.specs.declared.hand.RecoveryAt.TheVariants as recovery
 use Rattle.seq_turns.specs.Machines.{Machine, Turn}
 use Rattle.seq_turns.specs.Machines.Turn.{Stops}
 use Rattle.seq_turns.specs.Allowed.{Allowed}

@@ -7,10 +7,10 @@ use Rattle.seq_cache.specs.Changes.{IsCache}
 use Rattle.seq_image.specs.Flushing.{KeepsCopies}
 use Rattle.seq_turns.specs.declared.hand.Hand.{Hand}
 use Rattle.seq_turns.specs.declared.hand.Hand.TheVariants as hand
-use Rattle.seq_turns.specs.declared.recovery.RecoveryAt.{RecoveryAt}
-use Rattle.seq_turns.specs.declared.recovery.RecoveryAt.TheVariants as recovery
+use Rattle.seq_turns.specs.declared.hand.RecoveryAt.{RecoveryAt}
+use Rattle.seq_turns.specs.declared.hand.RecoveryAt.TheVariants as recovery
 use Rattle.seq_turns.specs.Machines.{Machine, Move, copies_after, after_move}
-use Rattle.seq_turns.specs.Recoveries.{names, recovered_blocks}
+use Rattle.seq_recover.specs.Reading.{names, recovered_blocks}
 use Rattle.seq_turns.proofs.Functions.{update_same, update_other, update_cases}
 use Rattle.seq_invariant.specs.BlockAreas.{hand_area, left_area}
 use Rattle.seq_invariant.specs.BlockWorks.{Committed, committed_blocks}

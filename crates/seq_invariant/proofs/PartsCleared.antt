@@ -9,12 +9,12 @@ use Rattle.seq_words.specs.declared.events.Event.TheVariants as event
 use Rattle.seq_layout.specs.Shapes.{shape_of, segment_extent}
 use Rattle.seq_layout.specs.Copies.{serves}
 use Rattle.seq_turns.specs.declared.hand.Hand.TheVariants as hand
-use Rattle.seq_turns.specs.declared.recovery.Locks as locks_stage
-use Rattle.seq_turns.specs.declared.recovery.Recovery.{Recovery}
-use Rattle.seq_turns.specs.declared.recovery.RecoveryAt.TheVariants as recovery
+use Rattle.seq_recover.specs.declared.recovery.Locks as locks_stage
+use Rattle.seq_recover.specs.declared.recovery.Recovery.{Recovery}
+use Rattle.seq_turns.specs.declared.hand.RecoveryAt.TheVariants as recovery
 use Rattle.seq_turns.specs.Machines.{Machine}
 use Rattle.seq_turns.specs.Reading.{context_of}
-use Rattle.seq_turns.specs.Recoveries.{names, is_shadow, is_left}
+use Rattle.seq_recover.specs.Reading.{names, is_shadow, is_left}
 use Rattle.seq_stands.specs.Locks.{lock_view, ContextOwns, SettledBelow, HandLocks}
 use Rattle.seq_stands.proofs.LockPlaces.{rules_first}
 use Rattle.seq_invariant.specs.BlockApart.{owners_of}

@@ -9,8 +9,8 @@ use Rattle.seq_turns.specs.declared.hand.Hand.{Hand}
 use Rattle.seq_turns.specs.declared.hand.Hand.TheVariants as hand
 use Rattle.seq_turns.specs.declared.hand.FlushAt.TheVariants as flush
 use Rattle.seq_turns.specs.declared.hand.ReleaseAt.TheVariants as release
-use Rattle.seq_turns.specs.declared.recovery.RecoveryAt.{RecoveryAt}
-use Rattle.seq_turns.specs.declared.recovery.RecoveryAt.TheVariants as recovery
+use Rattle.seq_turns.specs.declared.hand.RecoveryAt.{RecoveryAt}
+use Rattle.seq_turns.specs.declared.hand.RecoveryAt.TheVariants as recovery
 use Rattle.seq_turns.specs.Machines.{Machine}
 use Rattle.seq_turns.specs.Reading.{ruling as status_now, lives, awaits, is_recovered}
 use Rattle.seq_stands.specs.Grips.{Kind, Stage, word, grip, way}

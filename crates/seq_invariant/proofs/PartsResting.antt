@@ -9,11 +9,11 @@ use Rattle.seq_image.specs.Areas.{in_area}
 use Rattle.seq_image.proofs.Areas.{area_cases}
 use Rattle.seq_turns.specs.declared.hand.Hand.{Hand}
 use Rattle.seq_turns.specs.declared.hand.Hand.TheVariants as hand
-use Rattle.seq_turns.specs.declared.recovery.RecoveryAt.{RecoveryAt}
-use Rattle.seq_turns.specs.declared.recovery.RecoveryAt.TheVariants as recovery
+use Rattle.seq_turns.specs.declared.hand.RecoveryAt.{RecoveryAt}
+use Rattle.seq_turns.specs.declared.hand.RecoveryAt.TheVariants as recovery
 use Rattle.seq_turns.specs.Machines.{Machine}
 use Rattle.seq_turns.specs.Reading.{ruling as status_now, awaits, is_deserted, is_recovered}
-use Rattle.seq_turns.specs.Recoveries.{names}
+use Rattle.seq_recover.specs.Reading.{names}
 use Rattle.seq_stands.specs.Words.{View, ruling}
 use Rattle.seq_stands.specs.Locks.{lock_view, LockClaims, IsUncleared}
 use Rattle.seq_stands.specs.Locks.Hold.{Whole}

@@ -8,10 +8,10 @@ use Rattle.seq_layout.specs.Copies.{serves}
 use Rattle.seq_cache.specs.Changes.{IsCache}
 use Rattle.seq_image.specs.Flushing.{KeepsCopies}
 use Rattle.seq_turns.specs.declared.hand.Hand.TheVariants as hand
-use Rattle.seq_turns.specs.declared.recovery.RecoveryAt.{RecoveryAt}
+use Rattle.seq_turns.specs.declared.hand.RecoveryAt.{RecoveryAt}
 use Rattle.seq_turns.specs.Machines.{Machine, Move, after_move}
 use Rattle.seq_turns.specs.Reading.{ruling, is_deserted}
-use Rattle.seq_turns.specs.Recoveries.{names}
+use Rattle.seq_recover.specs.Reading.{names}
 use Rattle.seq_turns.proofs.Functions.{update_same, update_other}
 use Rattle.seq_stands.proofs.LockTurns.{OnlyOf}
 use Rattle.seq_invariant.specs.BlockAreas.{hand_area, left_area}

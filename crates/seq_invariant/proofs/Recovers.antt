@@ -9,17 +9,19 @@ use Rattle.seq_layout.specs.Copies.{serves}
 use Rattle.seq_status.specs.declared.status.Status.{Status}
 use Rattle.seq_status.specs.declared.status.Status.TheVariants as status
 use Rattle.seq_turns.specs.declared.hand.Hand.TheVariants as hand
-use Rattle.seq_turns.specs.declared.recovery.Recovery.{Recovery}
-use Rattle.seq_turns.specs.declared.recovery.Claimed as claimed_stage
-use Rattle.seq_turns.specs.declared.recovery.Copying as copying_stage
-use Rattle.seq_turns.specs.declared.recovery.RecoveryAt.{RecoveryAt}
-use Rattle.seq_turns.specs.declared.recovery.RecoveryAt.TheVariants as recovery
+use Rattle.seq_recover.specs.declared.recovery.Recovery.{Recovery}
+use Rattle.seq_recover.specs.declared.recovery.Claimed as claimed_stage
+use Rattle.seq_recover.specs.declared.recovery.Copying as copying_stage
+use Rattle.seq_turns.specs.declared.hand.RecoveryAt.{RecoveryAt}
+use Rattle.seq_turns.specs.declared.hand.RecoveryAt.TheVariants as recovery
 use Rattle.seq_turns.specs.Machines.{Machine, Change, Move, copies_after, after_move}
 use Rattle.seq_turns.specs.Machines.Turn.{Moves}
 use Rattle.seq_io.specs.Changes.Change.{Unchanged, To_block}
 use Rattle.seq_turns.specs.Reading.{ruling, is_deserted, goes_forward, write_word}
 use Rattle.seq_turns.specs.Operations.{goes}
-use Rattle.seq_turns.specs.Recoveries.{recovery_word, into_stage, begins, claimed_move, recovers, recovered_blocks, copied_over, copying_move}
+use Rattle.seq_recover.specs.Reading.{recovered_blocks}
+use Rattle.seq_recover.specs.Turns.{recovery_word, into_stage}
+use Rattle.seq_turns.specs.Recoveries.{begins, claimed_move, recovers, copied_over, copying_move}
 use Rattle.seq_turns.specs.Functions.{update}
 use Rattle.seq_turns.proofs.Functions.{update_same, copy_elsewhere}
 use Rattle.seq_stands.specs.Grips.{Stage, grip, way}

@@ -12,10 +12,10 @@ use Rattle.seq_image.specs.Areas.{in_area, owned_by}
 use Rattle.seq_image.specs.Starting.{TakesUp as TakenUp}
 use Rattle.seq_image.proofs.TakenUp.{image_is_taken_up}
 use Rattle.seq_turns.specs.declared.hand.Hand.TheVariants as hand
-use Rattle.seq_turns.specs.declared.recovery.RecoveryAt.{RecoveryAt}
-use Rattle.seq_turns.specs.declared.recovery.RecoveryAt.TheVariants as recovery
-use Rattle.seq_turns.specs.declared.recovery.Recovery.{Recovery}
-use Rattle.seq_turns.specs.declared.recovery.Locks as locks_stage
+use Rattle.seq_turns.specs.declared.hand.RecoveryAt.{RecoveryAt}
+use Rattle.seq_turns.specs.declared.hand.RecoveryAt.TheVariants as recovery
+use Rattle.seq_recover.specs.declared.recovery.Recovery.{Recovery}
+use Rattle.seq_recover.specs.declared.recovery.Locks as locks_stage
 use Rattle.seq_turns.specs.Machines.{Machine}
 use Rattle.seq_turns.specs.Reading.{context_of}
 use Rattle.seq_turns.specs.Duties.{owner}

@@ -4,7 +4,7 @@ use Rattle.seq_words.specs.declared.description.MachineDesc.{MachineDesc}
 use Rattle.seq_cache.specs.Changes.{IsCache}
 use Rattle.seq_turns.specs.declared.hand.Hand.{Hand}
 use Rattle.seq_turns.specs.declared.hand.Hand.TheVariants as hand
-use Rattle.seq_turns.specs.declared.recovery.RecoveryAt.{RecoveryAt}
+use Rattle.seq_turns.specs.declared.hand.RecoveryAt.{RecoveryAt}
 use Rattle.seq_turns.specs.Machines.{Machine, Move, Turn, after_move}
 use Rattle.seq_turns.specs.Machines.Turn.{Moves, Looks, Copies_unit, Stops}
 use Rattle.seq_turns.specs.Events.{after_turn}

@@ -24,7 +24,7 @@ use Rattle.seq_turns.specs.declared.hand.Hand.{Hand}
 use Rattle.seq_turns.specs.declared.hand.Hand.TheVariants as hand
 use Rattle.seq_turns.specs.declared.hand.FlushAt.{FlushAt}
 use Rattle.seq_turns.specs.declared.hand.FlushAt.TheVariants as flush
-use Rattle.seq_turns.specs.declared.recovery.RecoveryAt.{RecoveryAt}
+use Rattle.seq_turns.specs.declared.hand.RecoveryAt.{RecoveryAt}
 use Rattle.seq_turns.specs.Machines.{Machine, Move, Turn, idles, after_move}
 use Rattle.seq_turns.specs.Machines.Turn.{Moves, Stops}
 use Rattle.seq_io.specs.Changes.Change.{Unchanged}

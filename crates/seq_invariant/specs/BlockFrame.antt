@@ -15,7 +15,7 @@ use Rattle.seq_turns.specs.declared.hand.FlushAt.TheVariants as flush
 use Rattle.seq_turns.specs.Operations.{flush_move}
 use Rattle.seq_turns.specs.Machines.{Machine, Change, Move, copies_after, after_move}
 use Rattle.seq_io.specs.Changes.Change.{Unchanged, To_block, To_word}
-use Rattle.seq_turns.specs.Recoveries.{names}
+use Rattle.seq_recover.specs.Reading.{names}
 use Rattle.seq_invariant.specs.BlockAreas.{hand_area, left_area, Rests}
 use Rattle.seq_invariant.specs.BlockWorks.{Committed, committed_blocks}
 use Rattle.seq_invariant.specs.BlockHands.{HandKnows}

@@ -24,9 +24,9 @@ use Rattle.seq_turns.specs.declared.hand.Hand.{Hand}
 use Rattle.seq_turns.specs.declared.hand.Hand.TheVariants as hand
 use Rattle.seq_turns.specs.declared.hand.FlushAt.{FlushAt}
 use Rattle.seq_turns.specs.declared.hand.FlushAt.TheVariants as flush
-use Rattle.seq_turns.specs.declared.recovery.RecoveryAt.{RecoveryAt}
-use Rattle.seq_turns.specs.declared.recovery.RecoveryAt.TheVariants as recovery
-use Rattle.seq_turns.specs.Recoveries.{recovered_blocks}
+use Rattle.seq_turns.specs.declared.hand.RecoveryAt.{RecoveryAt}
+use Rattle.seq_turns.specs.declared.hand.RecoveryAt.TheVariants as recovery
+use Rattle.seq_recover.specs.Reading.{recovered_blocks}
 use Rattle.seq_invariant.specs.BlockAreas.{segments_of, BothHold}
 use Rattle.seq_invariant.specs.BlockWorks.{Committed, committed_blocks, with_commit, Works, Rested, AreUnits, Make}
 

@@ -7,8 +7,8 @@ use Rattle.seq_status.specs.declared.status.Status.{Status}
 use Rattle.seq_status.specs.declared.status.Status.TheVariants.{Idle, Run, Pass1, Pass2, Back, Forward}
 use Rattle.seq_image.specs.Areas.{CopyHolds}
 use Rattle.seq_turns.specs.declared.hand.Hand.TheVariants as hand
-use Rattle.seq_turns.specs.declared.recovery.RecoveryAt.{RecoveryAt}
-use Rattle.seq_turns.specs.declared.recovery.RecoveryAt.TheVariants as recovery
+use Rattle.seq_turns.specs.declared.hand.RecoveryAt.{RecoveryAt}
+use Rattle.seq_turns.specs.declared.hand.RecoveryAt.TheVariants as recovery
 use Rattle.seq_turns.specs.Reading.{ruling, is_deserted}
 use Rattle.seq_turns.specs.Machines.{Machine}
 use Rattle.seq_invariant.specs.BlockAreas.{left_area}

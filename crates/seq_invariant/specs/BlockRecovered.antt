@@ -3,12 +3,13 @@ use Rattle.std.specs.Prelude.{◌≡◌, ℕ, ◌+◌, Bool, true, nat_le, lengt
 use Rattle.seq_words.specs.declared.description.MachineDesc.{MachineDesc}
 use Rattle.seq_layout.specs.Shapes.{shape_of}
 use Rattle.seq_layout.specs.Copies.{serves}
-use Rattle.seq_turns.specs.declared.recovery.Copying as copying_stage
-use Rattle.seq_turns.specs.declared.recovery.Recovery.{Recovery}
-use Rattle.seq_turns.specs.declared.recovery.RecoveryAt.TheVariants as recovery
+use Rattle.seq_recover.specs.declared.recovery.Copying as copying_stage
+use Rattle.seq_recover.specs.declared.recovery.Recovery.{Recovery}
+use Rattle.seq_turns.specs.declared.hand.RecoveryAt.TheVariants as recovery
 use Rattle.seq_turns.specs.declared.hand.Hand.TheVariants as hand
 use Rattle.seq_turns.specs.Machines.{Machine, copies_after}
-use Rattle.seq_turns.specs.Recoveries.{recovered_blocks, copying_move}
+use Rattle.seq_recover.specs.Reading.{recovered_blocks}
+use Rattle.seq_turns.specs.Recoveries.{copying_move}
 use Rattle.seq_invariant.specs.BlockAreas.{left_area, Rests}
 use Rattle.seq_invariant.specs.BlockWorks.{Committed, committed_blocks}
 use Rattle.seq_invariant.specs.BlockHands.{HandKnows}

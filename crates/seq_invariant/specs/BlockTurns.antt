@@ -25,7 +25,7 @@ use Rattle.seq_turns.specs.declared.hand.Hand.TheVariants as hand
 use Rattle.seq_turns.specs.declared.hand.FlushAt.{FlushAt}
 use Rattle.seq_turns.specs.declared.hand.FlushAt.TheVariants as flush
 use Rattle.seq_turns.specs.declared.hand.ReleaseAt.{ReleaseAt}
-use Rattle.seq_turns.specs.declared.recovery.RecoveryAt.{RecoveryAt}
+use Rattle.seq_turns.specs.declared.hand.RecoveryAt.{RecoveryAt}
 use Rattle.seq_turns.specs.Machines.{Machine, Move, Turn, copies_after}
 use Rattle.seq_turns.specs.Machines.Turn.{Moves, Looks, Copies_unit, Stops}
 use Rattle.seq_turns.specs.Operations.{unit_count, flush_move, first_move, unlock_move, acquires, claims}

@@ -5,12 +5,12 @@ use Rattle.seq_words.specs.declared.description.MachineDesc.{MachineDesc}
 use Rattle.seq_words.specs.declared.events.Event.{Event}
 use Rattle.seq_flat.specs.declared.state.FlatState.{FlatState}
 use Rattle.seq_turns.specs.declared.hand.Hand.TheVariants as hand
-use Rattle.seq_turns.specs.declared.recovery.Recovery.{Recovery}
-use Rattle.seq_turns.specs.declared.recovery.Copying.{Copying}
-use Rattle.seq_turns.specs.declared.recovery.RecoveryAt.TheVariants as recovery
+use Rattle.seq_recover.specs.declared.recovery.Recovery.{Recovery}
+use Rattle.seq_recover.specs.declared.recovery.Copying.{Copying}
+use Rattle.seq_turns.specs.declared.hand.RecoveryAt.TheVariants as recovery
 use Rattle.seq_turns.specs.Machines.{Machine}
 use Rattle.seq_turns.specs.Reading.{ruling}
-use Rattle.seq_turns.specs.Recoveries.{recovered_blocks}
+use Rattle.seq_recover.specs.Reading.{recovered_blocks}
 use Rattle.seq_invariant.specs.BlockLeft.{way_of}
 use Rattle.seq_invariant.specs.Holds.{AllHolds}
 use Rattle.seq_invariant.specs.Processes.{Awaits}

@@ -22,11 +22,11 @@ use Rattle.seq_turns.specs.declared.hand.Hand.TheVariants as hand
 use Rattle.seq_turns.specs.declared.hand.FlushAt.{FlushAt}
 use Rattle.seq_turns.specs.declared.hand.FlushAt.TheVariants as flush
 use Rattle.seq_turns.specs.declared.hand.ReleaseAt.TheVariants as release
-use Rattle.seq_turns.specs.declared.recovery.Locks.{Locks}
-use Rattle.seq_turns.specs.declared.recovery.Recovery.{Recovery}
-use Rattle.seq_turns.specs.declared.recovery.RecoveryAt.TheVariants as recovery
+use Rattle.seq_recover.specs.declared.recovery.Locks.{Locks}
+use Rattle.seq_recover.specs.declared.recovery.Recovery.{Recovery}
+use Rattle.seq_turns.specs.declared.hand.RecoveryAt.TheVariants as recovery
 use Rattle.seq_turns.specs.Machines.{Machine}
-use Rattle.seq_turns.specs.Recoveries.{is_left}
+use Rattle.seq_recover.specs.Reading.{is_left}
 use Rattle.seq_turns.specs.Reading.{ruling, awaits, lock_word}
 use Rattle.seq_lines.specs.Arrivals.{arrived}
 use Rattle.seq_invariant.specs.Holds.{AllHolds}

@@ -26,15 +26,16 @@ use Rattle.seq_turns.specs.declared.hand.FlushAt.{FlushAt}
 use Rattle.seq_turns.specs.declared.hand.FlushAt.TheVariants as flush
 use Rattle.seq_turns.specs.declared.hand.ReleaseAt.{ReleaseAt}
 use Rattle.seq_turns.specs.declared.hand.ReleaseAt.TheVariants as release
-use Rattle.seq_turns.specs.declared.recovery.RecoveryAt.{RecoveryAt}
-use Rattle.seq_turns.specs.declared.recovery.RecoveryAt.TheVariants as recovery
+use Rattle.seq_turns.specs.declared.hand.RecoveryAt.{RecoveryAt}
+use Rattle.seq_turns.specs.declared.hand.RecoveryAt.TheVariants as recovery
 use Rattle.seq_turns.specs.Functions.{lowest}
 use Rattle.seq_turns.specs.Machines.{Machine, Move, Turn}
 use Rattle.seq_turns.specs.Machines.Turn.{Moves, Looks, Copies_unit, Stops}
 use Rattle.seq_turns.specs.Reading.{lock_word, context_of, copied_memory}
 use Rattle.seq_turns.specs.Causes.{after_releases, release_next, follows, agree, finds, released}
 use Rattle.seq_turns.specs.Operations.{taken_up, less, unit_count, flush_move, unlock_move, leave_move}
-use Rattle.seq_turns.specs.Recoveries.{recovery_move, left_from, locks_cleared}
+use Rattle.seq_recover.specs.Reading.{left_from}
+use Rattle.seq_turns.specs.Recoveries.{recovery_move, locks_cleared}
 use Rattle.seq_turns.specs.Processors.{turn, after_step, seeks, is_free, deserted, runs, someone_amid, copies_or_waits, seeks_or_copies, runs_or_copies}
 use Rattle.seq_turns.specs.Events.{comes_back, strikes}
 use Rattle.seq_lines.specs.Known.{HandIsWithin}

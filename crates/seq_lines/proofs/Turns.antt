@@ -40,15 +40,16 @@ use Rattle.seq_turns.specs.declared.hand.FlushAt.{FlushAt}
 use Rattle.seq_turns.specs.declared.hand.FlushAt.TheVariants as flush
 use Rattle.seq_turns.specs.declared.hand.ReleaseAt.{ReleaseAt}
 use Rattle.seq_turns.specs.declared.hand.ReleaseAt.TheVariants as release
-use Rattle.seq_turns.specs.declared.recovery.RecoveryAt.{RecoveryAt}
-use Rattle.seq_turns.specs.declared.recovery.RecoveryAt.TheVariants as recovery
+use Rattle.seq_turns.specs.declared.hand.RecoveryAt.{RecoveryAt}
+use Rattle.seq_turns.specs.declared.hand.RecoveryAt.TheVariants as recovery
 use Rattle.seq_turns.specs.Functions.{update}
 use Rattle.seq_turns.specs.Machines.{Machine, Move, Turn, after_move}
 use Rattle.seq_turns.specs.Machines.Turn.{Moves, Looks, Copies_unit, Stops}
 use Rattle.seq_turns.specs.Reading.{lock_word, context_of, copied_memory, is_copied, is_amid}
 use Rattle.seq_turns.specs.Causes.{finds, agree, released}
 use Rattle.seq_turns.specs.Operations.{taken_up, claims, acquires, less, unit_count, flush_move, unlock_move, leave_move}
-use Rattle.seq_turns.specs.Recoveries.{recovery_move, left_from, locks_cleared, unit_copied}
+use Rattle.seq_recover.specs.Reading.{left_from}
+use Rattle.seq_turns.specs.Recoveries.{recovery_move, locks_cleared, unit_copied}
 use Rattle.seq_turns.specs.Processors.{turn, after_step, seeks, is_free, deserted, someone_amid, copies_or_waits, seeks_or_copies, runs_or_copies}
 use Rattle.seq_turns.specs.Events.{after_turn}
 use Rattle.seq_turns.proofs.Functions.{update_cases, lowest_passes, lowest_none}

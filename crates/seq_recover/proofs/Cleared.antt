@@ -3,35 +3,36 @@ use Rattle.std.proofs.Common.{◌≡◌, ◌≢◌, ◌⊎◌, inl, inr, ℕ, su
 use Rattle.std.proofs.lemmas.Bool.{cases_Bool, cases_lt, cases_order, cond_both, cond-true, and_parts, and_from, eqb-true, ne_eqb, not_from_false, false≢true, true≢false}
 use Rattle.seq_words.specs.Masks.{has_bit}
 use Rattle.seq_words.specs.declared.description.MachineDesc.{MachineDesc}
-use Rattle.seq_layout.specs.Shapes.{shape_of, segment_extent}
-use Rattle.seq_layout.specs.Copies.{Copies, serves, same_copy}
-use Rattle.seq_io.specs.Changes.Change.{Unchanged, To_word}
-use Rattle.seq_turns.specs.declared.recovery.Closing.{Closing}
-use Rattle.seq_turns.specs.declared.recovery.Recovery.{Recovery}
-use Rattle.seq_turns.specs.Functions.{update_copy}
-use Rattle.seq_turns.specs.Machines.{Change, copies_after}
-use Rattle.seq_turns.specs.Reading.{context_of, write_word}
-use Rattle.seq_turns.specs.Recoveries.{names, is_shadow, is_left, left_from}
-use Rattle.seq_turns.proofs.Functions.{copy_same, copy_other}
-use Rattle.seq_turns.proofs.LeftFrom.{left_none, left_least}
+use Rattle.seq_layout.specs.Shapes.{Shape, shape_of, segment_extent}
+use Rattle.seq_layout.specs.Copies.{Copies, serves, same_copy, with_word, word_written}
+use Rattle.seq_layout.proofs.CopiesLaws.{word_changes_alone}
+use Rattle.seq_recover.specs.declared.recovery.Closing.{Closing}
+use Rattle.seq_recover.specs.declared.recovery.Recovery.{Recovery}
+use Rattle.seq_recover.specs.Reading.{context_of, names, is_shadow, is_left, left_from}
+use Rattle.seq_recover.specs.Turns.{status_set, lock_cleared}
 use Rattle.seq_recover.specs.Stands.{AllServe, IsInArea, IsAreaEqual, NamesHeld, ClosingKnows, RecoveredKnows}
-use Rattle.seq_recover.proofs.Rows.{clears}
+use Rattle.seq_recover.proofs.LeftFrom.{left_none, left_least}
+
+-- a copy that is in service is written
+pub written_is : (s : Shape) (p : Copies) (e n : ℕ) (c : Bool) (w : ℕ) → serves s p e c ≡ true → word_written s p e n c w ≡ with_word p e n c w
+unfolding word_written
+written_is s p e n c w serving = cond-true (serves s p e c) (with_word p e n c w) p serving
 
 -- a copy of a word is cleared
 module _ (d : MachineDesc) (p : Copies) (e n : ℕ) (c : Bool) where
   abbrev pub now : Copies
-  now = copies_after (To_word e n c 0) p
+  now = with_word p e n c 0
 
   -- a word that names a process did so before
   named_before : (q t : ℕ) (c' : Bool) → names d now q t c' ≡ true → names d p q t c' ≡ true
-  unfolding update_copy
+  unfolding with_word
   named_before q t c' = cond_both ((segment_extent (shape_of d) t == e && 0 == n) && same_copy c' c) 0 (p.word (segment_extent (shape_of d) t) 0 c')
       (λ w. (serves (shape_of d) p (segment_extent (shape_of d) t) c' && (w == suc q)) ≡ true → names d p q t c' ≡ true)
       (λ _ is. absurd (let parts = and_parts (serves (shape_of d) p (segment_extent (shape_of d) t) c') (0 == suc q) is in let zero : 0 ≡ suc q = eqb-true 0 (suc q) parts.1 in let none : ⊥ = omega (arith, zero) in none))
       (λ _ is. is)
 
   context_stays : (q : ℕ) → context_of d now q ≡ context_of d p q
-  unfolding context_of
+  unfolding context_of with_word
   context_stays q = refl
 
   in_area_before : (q e' : ℕ) → IsInArea d now q e' → IsInArea d p q e'
@@ -39,6 +40,7 @@ module _ (d : MachineDesc) (p : Copies) (e n : ℕ) (c : Bool) where
   in_area_before q e' (inr (t, below, extent, is)) = inr (t, below, extent, named_before q t false is)
 
   pub area_stays : (q : ℕ) → IsAreaEqual d p q → IsAreaEqual d now q
+  unfolding with_word
   area_stays q area = record { each = λ e' n' inside lt. area.each e' n' (in_area_before q e' inside) lt }
 
   pub held_stays : (q : ℕ) → NamesHeld d p q → NamesHeld d now q
@@ -94,12 +96,12 @@ module _ (d : MachineDesc) (p : Copies) (q : ℕ) where
   -- and so after the last that is left is cleared
   module _ (n : ℕ) (behind : (k : ℕ) → k < n → is_left d p q k ≡ false) (k : ℕ) (found : left_from d p q n ≡ Some k) where
     abbrev after : Copies
-    after = copies_after (clears d k) p
+    after = lock_cleared d p k
 
     -- the lock word that is cleared doesn't name it
     gone : names d after q (k / 2) (is_shadow k) ≡ true → ⊥
     gone is =
-        let here : after.word (segment_extent (shape_of d) (k / 2)) 0 (is_shadow k) ≡ 0 = copy_same p.word (segment_extent (shape_of d) (k / 2)) 0 (is_shadow k) 0 in
+        let here : after.word (segment_extent (shape_of d) (k / 2)) 0 (is_shadow k) ≡ 0 = (word_changes_alone p (segment_extent (shape_of d) (k / 2)) 0 (is_shadow k) 0).here in
         let parts = and_parts (serves (shape_of d) after (segment_extent (shape_of d) (k / 2)) (is_shadow k)) (after.word (segment_extent (shape_of d) (k / 2)) 0 (is_shadow k) == suc q) is in
         let named : after.word (segment_extent (shape_of d) (k / 2)) 0 (is_shadow k) ≡ suc q = eqb-true (after.word (segment_extent (shape_of d) (k / 2)) 0 (is_shadow k)) (suc q) parts.1 in
         omega (arith, here, named)
@@ -142,20 +144,20 @@ module _ (d : MachineDesc) (p : Copies) (r : Recovery Closing) (serve : AllServe
   abbrev own : ℕ
   own = r.pid.0
 
-  freed : (c : Bool) → write_word d p own 0 c 0 ≡ To_word own 0 c 0
-  freed c = cond-true (serves (shape_of d) p own c) (To_word own 0 c 0) Unchanged (serve own c)
+  freed : (c : Bool) → status_set d p own c 0 ≡ with_word p own 0 c 0
+  freed c = written_is (shape_of d) p own 0 c 0 (serve own c)
 
-  pub closing_knows : ClosingKnows d (copies_after (write_word d p own 0 true 0) p) (record r { cursor = 1 })
-  closing_knows = subst (λ (x : Change). ClosingKnows d (copies_after x p) (record r { cursor = 1 })) (sym (freed true)) (record {
+  pub closing_knows : ClosingKnows d (status_set d p own true 0) (record r { cursor = 1 })
+  closing_knows = subst (λ (x : Copies). ClosingKnows d x (record r { cursor = 1 })) (sym (freed true)) (record {
     area = area_stays d p own 0 true own knows.area;
     locks = held_stays d p own 0 true own knows.locks;
-    begun = λ _. copy_same p.word own 0 true 0;
+    begun = λ _. (word_changes_alone p own 0 true 0).here;
   })
 
-  pub recovered_knows : r.cursor ≢ 0 → RecoveredKnows d (copies_after (write_word d p own 0 false 0) p) own
-  recovered_knows begun = subst (λ (x : Change). RecoveredKnows d (copies_after x p) own) (sym (freed false)) (record {
+  pub recovered_knows : r.cursor ≢ 0 → RecoveredKnows d (status_set d p own false 0) own
+  recovered_knows begun = subst (λ (x : Copies). RecoveredKnows d x own) (sym (freed false)) (record {
     area = area_stays d p own 0 false own knows.area;
     locks = held_stays d p own 0 false own knows.locks;
-    primary = copy_same p.word own 0 false 0;
-    shadow = copy_other p.word own 0 false 0 own 0 true true≢false ∙ knows.begun begun;
+    primary = (word_changes_alone p own 0 false 0).here;
+    shadow = (word_changes_alone p own 0 false 0).elsewhere own 0 true (λ same. false≢true same.copy) ∙ knows.begun begun;
   })

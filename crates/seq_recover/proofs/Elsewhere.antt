@@ -13,12 +13,11 @@ use Rattle.seq_layout.specs.Copies.{Copies, serves, first_block, with_block, wit
 use Rattle.seq_layout.specs.Held.{IsOther}
 use Rattle.seq_layout.specs.declared.context.Context.{Context}
 use Rattle.seq_layout.proofs.CopiesLaws.{block_changes_alone, word_changes_alone}
-use Rattle.seq_turns.specs.declared.recovery.Copying.{Copying}
-use Rattle.seq_turns.specs.declared.recovery.Locks.{Locks}
-use Rattle.seq_turns.specs.declared.recovery.Closing.{Closing}
-use Rattle.seq_turns.specs.declared.recovery.Recovery.{Recovery}
-use Rattle.seq_turns.specs.Reading.{context_of, context_in}
-use Rattle.seq_turns.specs.Recoveries.{names, blocks_in, blocks_below, recovered_blocks, is_shadow}
+use Rattle.seq_recover.specs.declared.recovery.Copying.{Copying}
+use Rattle.seq_recover.specs.declared.recovery.Locks.{Locks}
+use Rattle.seq_recover.specs.declared.recovery.Closing.{Closing}
+use Rattle.seq_recover.specs.declared.recovery.Recovery.{Recovery}
+use Rattle.seq_recover.specs.Reading.{context_in, context_of, names, blocks_in, blocks_below, recovered_blocks, is_shadow}
 use Rattle.seq_recover.specs.Stands.{IsInArea, IsAreaEqual, NamesHeld, CopyingKnows, LocksKnows, ClosingKnows, RecoveredKnows}
 use Rattle.seq_recover.specs.Survive.{CopyingSurvives, LocksSurvives, ClosingSurvives, RecoveredSurvives}
 use Rattle.seq_recover.proofs.Listed.{in_listed}

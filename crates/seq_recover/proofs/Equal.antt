@@ -4,34 +4,38 @@ use Rattle.std.proofs.lemmas.Bool.{cases_eq, cond-true, true≢false, false≢tr
 use Rattle.std.proofs.lemmas.Option.{slice_get_within}
 use Rattle.seq_words.specs.declared.description.MachineDesc.{MachineDesc}
 use Rattle.seq_memory.specs.States.{is_in_service}
-use Rattle.seq_layout.specs.Places.{memory_of}
+use Rattle.seq_layout.specs.Places.{memory_of, IsSamePart}
 use Rattle.seq_layout.specs.Shapes.{shape_of, segment_extent}
-use Rattle.seq_layout.specs.Copies.{Copies, serves}
-use Rattle.seq_io.specs.Changes.Change.{Unchanged, To_block}
-use Rattle.seq_turns.specs.declared.recovery.Copying.{Copying}
-use Rattle.seq_turns.specs.declared.recovery.Recovery.{Recovery}
-use Rattle.seq_turns.specs.Machines.{Change, copies_after}
-use Rattle.seq_turns.specs.Recoveries.{names, blocks_in, blocks_below, recovered_blocks, copied_over}
-use Rattle.seq_turns.proofs.Functions.{copy_same, copy_other, copy_elsewhere, copy_other_part}
-use Rattle.seq_recover.specs.Rows.{named_blocks}
+use Rattle.seq_layout.specs.Copies.{Copies, serves, with_block, block_written}
+use Rattle.seq_layout.proofs.CopiesLaws.{block_changes_alone}
+use Rattle.seq_layout.proofs.CopiesWritten.{block_states, block_words}
+use Rattle.seq_recover.specs.declared.recovery.Copying.{Copying}
+use Rattle.seq_recover.specs.declared.recovery.Recovery.{Recovery}
+use Rattle.seq_recover.specs.Reading.{names, blocks_in, named_blocks, blocks_below, recovered_blocks}
+use Rattle.seq_recover.specs.Turns.{block_copied}
 use Rattle.seq_recover.specs.Stands.{AllServe, IsEqual, IsInArea, IsAreaEqual, CopyingKnows}
 use Rattle.seq_recover.proofs.Listed.{so_far, count_named, found, found_own}
 
 -- one copy of a block is copied to the other
 abbrev over : Copies → ℕ → ℕ → Bool → Copies
-over p e n to = copies_after (To_block e n to (p.block e n (not to))) p
+over p e n to = with_block p e n to (p.block e n (not to))
 
 copied_is : (p : Copies) (e n : ℕ) (to : Bool) → IsEqual (over p e n to) e n
-copied_is p e n true = copy_other p.block e n true (p.block e n false) e n false false≢true ∙ sym (copy_same p.block e n true (p.block e n false))
-copied_is p e n false = copy_same p.block e n false (p.block e n true) ∙ sym (copy_other p.block e n false (p.block e n true) e n true true≢false)
+copied_is p e n true = (block_changes_alone p e n true (p.block e n false)).elsewhere e n false (λ same. true≢false same.copy) ∙ sym (block_changes_alone p e n true (p.block e n false)).here
+copied_is p e n false = (block_changes_alone p e n false (p.block e n true)).here ∙ sym ((block_changes_alone p e n false (p.block e n true)).elsewhere e n true (λ same. false≢true same.copy))
 
 -- blocks that are equal stay so
 still_equal : (p : Copies) (e n : ℕ) (to : Bool) (x y : ℕ) → IsEqual p x y → IsEqual (over p e n to) x y
 still_equal p e n to x y same = go (cases_eq x e) (cases_eq y n)
   where
+    stays : ((c : Bool) → IsSamePart e n to x y c → ⊥) → IsEqual (over p e n to) x y
+    stays differ =
+        let alone = block_changes_alone p e n to (p.block e n (not to)) in
+        alone.elsewhere x y false (differ false) ∙ same ∙ sym (alone.elsewhere x y true (differ true))
+
     go : (x ≡ e) ⊎ (x ≡ e → ⊥) → (y ≡ n) ⊎ (y ≡ n → ⊥) → IsEqual (over p e n to) x y
-    go (inr ne) b = copy_elsewhere p.block e n to (p.block e n (not to)) x y false ne ∙ same ∙ sym (copy_elsewhere p.block e n to (p.block e n (not to)) x y true ne)
-    go (inl a) (inr ne) = copy_other_part p.block e n to (p.block e n (not to)) x y false ne ∙ same ∙ sym (copy_other_part p.block e n to (p.block e n (not to)) x y true ne)
+    go (inr ne) b = stays (λ c s. ne (sym s.extent))
+    go (inl a) (inr ne) = stays (λ c s. ne (sym s.part))
     go (inl a) (inl b) = subst (λ i. IsEqual (over p e n to) i y) (sym a) (subst (λ i. IsEqual (over p e n to) e i) (sym b) (copied_is p e n to))
 
 -- the same words in the same states name the same segments
@@ -52,24 +56,26 @@ module _ (d : MachineDesc) (p now : Copies) (q : ℕ) (states : now.state ≡ p.
 -- a turn that copies, with all copies in service
 module _ (d : MachineDesc) (p : Copies) (to : Bool) (serve : AllServe (shape_of d) p) where
   abbrev after : Option (ℕ × ℕ) → Copies
-  after o = copies_after (copied_over d p to o) p
+  after o = block_copied d p to o
 
-  some_is : (b : ℕ × ℕ) → copied_over d p to (Some b) ≡ To_block b.0 b.1 to (p.block b.0 b.1 (not to))
-  some_is b = cond-true (serves (shape_of d) p b.0 to) (To_block b.0 b.1 to (p.block b.0 b.1 (not to))) Unchanged (serve b.0 to)
+  some_is : (b : ℕ × ℕ) → after (Some b) ≡ over p b.0 b.1 to
+  unfolding block_written
+  some_is b = cond-true (serves (shape_of d) p b.0 to) (over p b.0 b.1 to) p (serve b.0 to)
 
   pub states_stay : (o : Option (ℕ × ℕ)) → (after o).state ≡ p.state
-  states_stay o = refl
+  states_stay None = refl
+  states_stay (Some b) = block_states (shape_of d) p b.0 b.1 to (p.block b.0 b.1 (not to))
 
   words_stay : (o : Option (ℕ × ℕ)) → (after o).word ≡ p.word
   words_stay None = refl
-  words_stay (Some b) = ap (λ (x : Change). (copies_after x p).word) (some_is b)
+  words_stay (Some b) = block_words (shape_of d) p b.0 b.1 to (p.block b.0 b.1 (not to))
 
   equal_stays : (o : Option (ℕ × ℕ)) (x y : ℕ) → IsEqual p x y → IsEqual (after o) x y
   equal_stays None x y same = same
-  equal_stays (Some b) x y same = subst (λ (c : Change). IsEqual (copies_after c p) x y) (sym (some_is b)) (still_equal p b.0 b.1 to x y same)
+  equal_stays (Some b) x y same = subst (λ (z : Copies). IsEqual z x y) (sym (some_is b)) (still_equal p b.0 b.1 to x y same)
 
   equal_here : (b : ℕ × ℕ) → IsEqual (after (Some b)) b.0 b.1
-  equal_here b = subst (λ (c : Change). IsEqual (copies_after c p) b.0 b.1) (sym (some_is b)) (copied_is p b.0 b.1 to)
+  equal_here b = subst (λ (z : Copies). IsEqual z b.0 b.1) (sym (some_is b)) (copied_is p b.0 b.1 to)
 
 module _ (d : MachineDesc) (p : Copies) (r : Recovery Copying) (serve : AllServe (shape_of d) p) (knows : CopyingKnows d p r) where
   abbrev q : ℕ
@@ -80,10 +86,10 @@ module _ (d : MachineDesc) (p : Copies) (r : Recovery Copying) (serve : AllServe
 
   -- the copies after the turn
   abbrev pub now : Copies
-  now = copies_after (copied_over d p r.forward (slice_get blocks r.cursor)) p
+  now = block_copied d p r.forward (slice_get blocks r.cursor)
 
   listed : recovered_blocks d now q ≡ blocks
-  listed = same_listed d p now q refl (words_stay d p r.forward serve (slice_get blocks r.cursor))
+  listed = same_listed d p now q (states_stay d p r.forward serve (slice_get blocks r.cursor)) (words_stay d p r.forward serve (slice_get blocks r.cursor))
 
   -- one block more is equal
   one_more : (k : ℕ) (b : ℕ × ℕ) → k < r.cursor + 1 → slice_get blocks k ≡ Some b → IsEqual now b.0 b.1
@@ -92,7 +98,7 @@ module _ (d : MachineDesc) (p : Copies) (r : Recovery Copying) (serve : AllServe
       go : (k ≡ r.cursor) ⊎ (k ≡ r.cursor → ⊥) → IsEqual now b.0 b.1
       go (inl e) =
           let here : slice_get blocks r.cursor ≡ Some b = ap (slice_get blocks) (sym e) ∙ is in
-          subst (λ o. IsEqual (copies_after (copied_over d p r.forward o) p) b.0 b.1) (sym here) (equal_here d p r.forward serve b)
+          subst (λ o. IsEqual (block_copied d p r.forward o) b.0 b.1) (sym here) (equal_here d p r.forward serve b)
       go (inr ne) = equal_stays d p r.forward serve (slice_get blocks r.cursor) b.0 b.1 (knows.behind k b (omega (arith, few, ne)) is)
 
   pub copying_knows : CopyingKnows d now (record r { cursor = r.cursor + 1 })
@@ -112,6 +118,6 @@ module _ (d : MachineDesc) (p : Copies) (r : Recovery Copying) (serve : AllServe
       go : (e n : ℕ) → IsInArea d now q e → n < slice_index (shape_of d).blocks e → IsEqual now e n
       go e n (inl own) lt = copied n (e, n) (subst (λ x. slice_get blocks n ≡ Some (x, n)) (sym own) (found_own d p q n (subst (λ x. n < slice_index (shape_of d).blocks x) own lt)))
       go e n (inr (t, below, extent, is)) lt =
-          let is' : names d p q t false ≡ true = sym (same_names d p now q refl (words_stay d p r.forward serve (slice_get blocks r.cursor)) t false) ∙ is in
+          let is' : names d p q t false ≡ true = sym (same_names d p now q (states_stay d p r.forward serve (slice_get blocks r.cursor)) (words_stay d p r.forward serve (slice_get blocks r.cursor)) t false) ∙ is in
           let lt' : n < slice_index (shape_of d).blocks (segment_extent (shape_of d) t) = subst (λ x. n < slice_index (shape_of d).blocks x) extent lt in
           copied (length (so_far d p q t) + n) (e, n) (subst (λ x. slice_get blocks (length (so_far d p q t) + n) ≡ Some (x, n)) (sym extent) (found d p q t (length (so_far d p q t) + n) n below refl (named t n below is' lt')))

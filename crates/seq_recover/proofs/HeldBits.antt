@@ -6,7 +6,7 @@ use Rattle.seq_layout.specs.Places.{IsPlace}
 use Rattle.seq_layout.specs.Shapes.{Shape, shape_of}
 use Rattle.seq_layout.specs.Copies.{Copies, first_block}
 use Rattle.seq_layout.proofs.Sizes.{process_has_context}
-use Rattle.seq_turns.specs.Reading.{context_of}
+use Rattle.seq_recover.specs.Reading.{context_of}
 
 -- they are the fifth number of block four
 pub held_is : (d : MachineDesc) (p : Copies) (q : ℕ) → (context_of d p q).held ≡ word_at (first_block (shape_of d) p q 4).bytes 16

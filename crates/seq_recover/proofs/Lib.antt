@@ -1,6 +1,5 @@
-pub mod Rows
 pub mod Listed
-pub mod Lowest
+pub mod LeftFrom
 pub mod Equal
 pub mod Cleared
 pub mod HeldBits

@@ -16,8 +16,7 @@ use Rattle.seq_layout.specs.Shapes.{shape_of, blocks_of, segment_extent}
 use Rattle.seq_layout.specs.Copies.{Copies}
 use Rattle.seq_layout.proofs.Sizes.{blocks_between, extents_few, segment_is_extent}
 use Rattle.std.proofs.lemmas.List.Elements.{All-weaker}
-use Rattle.seq_turns.specs.Recoveries.{names, blocks_in, blocks_below, recovered_blocks}
-use Rattle.seq_recover.specs.Rows.{block_of, named_blocks}
+use Rattle.seq_recover.specs.Reading.{names, block_of, blocks_in, named_blocks, blocks_below, recovered_blocks}
 use Rattle.seq_recover.specs.Stands.{IsInArea}
 
 -- a pair of a list of two, by its number

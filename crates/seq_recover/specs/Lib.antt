@@ -1,4 +1,5 @@
+pub mod Reading
+pub mod Turns
 pub mod Needs
-pub mod Rows
 pub mod Stands
 pub mod Survive

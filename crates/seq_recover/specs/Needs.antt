@@ -5,13 +5,11 @@ use Rattle.seq_words.specs.declared.description.MachineDesc.{MachineDesc}
 use Rattle.seq_layout.specs.Shapes.{shape_of, blocks_of}
 use Rattle.seq_layout.specs.Copies.{Copies, IsServed, first_block}
 use Rattle.seq_layout.specs.Contexts.{IsContextBlocks}
-use Rattle.seq_turns.specs.declared.recovery.Claimed.{Claimed}
-use Rattle.seq_turns.specs.declared.recovery.Copying.{Copying}
-use Rattle.seq_turns.specs.declared.recovery.Locks.{Locks}
-use Rattle.seq_turns.specs.declared.recovery.Closing.{Closing}
-use Rattle.seq_turns.specs.declared.recovery.Recovery.{Recovery}
-use Rattle.seq_turns.specs.declared.recovery.RecoveryAt.{RecoveryAt}
-use Rattle.seq_turns.specs.declared.recovery.RecoveryAt.TheVariants as at
+use Rattle.seq_recover.specs.declared.recovery.Claimed.{Claimed}
+use Rattle.seq_recover.specs.declared.recovery.Copying.{Copying}
+use Rattle.seq_recover.specs.declared.recovery.Locks.{Locks}
+use Rattle.seq_recover.specs.declared.recovery.Closing.{Closing}
+use Rattle.seq_recover.specs.declared.recovery.Recovery.{Recovery}
 
 -- The context of process q may be read: it stands at a copy in service, inside the format.
 pub record HasContext (d : MachineDesc) (p : Copies) (q : ℕ) : Type 0 where
@@ -37,10 +35,3 @@ pub record LocksNeeds (d : MachineDesc) (p : Copies) (r : Recovery Locks) : Type
 -- Closing: the process is there
 pub record ClosingNeeds (d : MachineDesc) (r : Recovery Closing) : Type 0 where
   pub process : r.pid.0 < length d.processes
-
--- the same by the recovery's stage
-abbrev pub RecoveryNeeds : MachineDesc → Copies → RecoveryAt → Type 0
-RecoveryNeeds d p (at.Claimed r) = ClaimedNeeds d r
-RecoveryNeeds d p (at.Copying r) = CopyingNeeds d r
-RecoveryNeeds d p (at.Locks r) = LocksNeeds d p r
-RecoveryNeeds d p (at.Closing r) = ClosingNeeds d r

@@ -4,12 +4,11 @@ use Rattle.seq_words.specs.Masks.{has_bit}
 use Rattle.seq_words.specs.declared.description.MachineDesc.{MachineDesc}
 use Rattle.seq_layout.specs.Shapes.{Shape, shape_of, segment_extent}
 use Rattle.seq_layout.specs.Copies.{Copies, serves}
-use Rattle.seq_turns.specs.declared.recovery.Copying.{Copying}
-use Rattle.seq_turns.specs.declared.recovery.Locks.{Locks}
-use Rattle.seq_turns.specs.declared.recovery.Closing.{Closing}
-use Rattle.seq_turns.specs.declared.recovery.Recovery.{Recovery}
-use Rattle.seq_turns.specs.Reading.{context_of}
-use Rattle.seq_turns.specs.Recoveries.{names, recovered_blocks, is_left}
+use Rattle.seq_recover.specs.declared.recovery.Copying.{Copying}
+use Rattle.seq_recover.specs.declared.recovery.Locks.{Locks}
+use Rattle.seq_recover.specs.declared.recovery.Closing.{Closing}
+use Rattle.seq_recover.specs.declared.recovery.Recovery.{Recovery}
+use Rattle.seq_recover.specs.Reading.{context_of, names, recovered_blocks, is_left}
 
 -- both copies of every extent are in service
 abbrev pub AllServe : Shape → Copies → Type 0

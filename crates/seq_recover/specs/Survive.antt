@@ -4,10 +4,10 @@ use Rattle.seq_words.specs.declared.block.Block.{Block}
 use Rattle.seq_words.specs.declared.description.MachineDesc.{MachineDesc}
 use Rattle.seq_layout.specs.Copies.{Copies, with_block, with_word}
 use Rattle.seq_layout.specs.Held.{IsOther}
-use Rattle.seq_turns.specs.declared.recovery.Copying.{Copying}
-use Rattle.seq_turns.specs.declared.recovery.Locks.{Locks}
-use Rattle.seq_turns.specs.declared.recovery.Closing.{Closing}
-use Rattle.seq_turns.specs.declared.recovery.Recovery.{Recovery}
+use Rattle.seq_recover.specs.declared.recovery.Copying.{Copying}
+use Rattle.seq_recover.specs.declared.recovery.Locks.{Locks}
+use Rattle.seq_recover.specs.declared.recovery.Closing.{Closing}
+use Rattle.seq_recover.specs.declared.recovery.Recovery.{Recovery}
 use Rattle.seq_recover.specs.Stands.{IsInArea, CopyingKnows, LocksKnows, ClosingKnows, RecoveredKnows}
 
 -- What is said of process q survives each write to a block outside its area, and to a word that isn't its status word and names it

@@ -5,20 +5,17 @@ ghost use Rattle.std.specs.Option.{option_map};
 ghost use Rattle.seq_words.specs.Description.{IsDescription};
 ghost use Rattle.seq_layout.specs.Places.{IsPlace};
 ghost use Rattle.seq_layout.specs.Shapes.{shape_of, blocks_of};
-ghost use Rattle.seq_layout.specs.Copies.{Matches, copies};
+ghost use Rattle.seq_layout.specs.Copies.{Matches, copies, block_written};
 ghost use Rattle.seq_status.specs.declared.step.Step.TheVariants.{Again, Next};
-ghost use Rattle.seq_turns.specs.Machines.{copies_after};
-ghost use Rattle.seq_turns.specs.Reading.{write_block};
-ghost use Rattle.seq_turns.specs.Recoveries.{recovered_blocks, copied_over, copying_move};
+ghost use Rattle.seq_recover.specs.Reading.{block_of, named_blocks, recovered_blocks};
+ghost use Rattle.seq_recover.specs.Turns.{block_copied, copying_turn};
 ghost use Rattle.seq_recover.specs.Needs.{CopyingNeeds};
-ghost use Rattle.seq_recover.specs.Rows.{IsRow, after_copying, block_of, named_blocks};
 ghost use Rattle.seq_recover.specs.Stands.{AllServe, CopyingKnows, LocksKnows};
 
 use crate::words::names;
+use crate::{Copying, Locks, Recovery, Step};
 use seq_layout::{Extent, Layout};
 use seq_memory::Memories;
-use seq_status::Step;
-use seq_turns::{Copying, Locks, Recovery};
 use seq_words::{Block, MachineDesc, Pid, Seg};
 
 // How many blocks of a segment a recovery copies: all of them, if its primary lock word names the process.
@@ -71,22 +68,6 @@ fn block_at(
     None
 }
 
-// Whether no block comes after the next one.
-fn is_last(
-    recovery: &Recovery<Copying>,
-    memories: &Memories,
-    layout: &Layout,
-    desc: &MachineDesc,
-) -> bool
-    requires description { IsDescription desc.now }
-    requires layout { layout.now ≡ shape_of desc.now }
-    requires matches { Matches layout.now memories.now }
-    requires needs { CopyingNeeds desc.now recovery.now }
-    ensures { result ≡ nat_le (length (recovered_blocks desc.now (copies layout.now memories.now) recovery.now.pid.0)) (recovery.now.cursor + 1) }
-{
-    block_at(recovery.pid, recovery.cursor + 1, memories, layout, desc).is_none()
-}
-
 // A copy of a block, whether it is in service or not.
 fn held_block(memories: &Memories, layout: &Layout, extent: Extent, n: u32, shadow: bool) -> Block
     requires matches { Matches layout.now memories.now }
@@ -109,63 +90,67 @@ fn copy_over(
     requires layout { layout.now ≡ shape_of desc.now }
     requires matches { Matches layout.now memories.old }
     requires place { IsPlace layout.now.blocks extent.0 n }
-    ensures copies { copies layout.now memories.new ≡ copies_after (write_block desc.now (copies layout.now memories.old) extent.0 n to ((copies layout.now memories.old).block extent.0 n (not to))) (copies layout.now memories.old) }
+    ensures copies { copies layout.now memories.new ≡ block_written (shape_of desc.now) (copies layout.now memories.old) extent.0 n to ((copies layout.now memories.old).block extent.0 n (not to)) }
     ensures matches { Matches layout.now memories.new }
 {
     let block = held_block(memories, layout, extent, n, !to);
     layout.write_block(memories, extent, n, to, &block);
 }
 
-// Copies the next block, if there is one: forward over its shadow, back over its primary.
-fn copy_next(
-    recovery: &Recovery<Copying>,
-    memories: &mut Memories,
-    layout: &Layout,
-    desc: &MachineDesc,
-)
-    requires layout { layout.now ≡ shape_of desc.now }
-    requires matches { Matches layout.now memories.old }
-    requires process { recovery.now.pid.0 < length desc.now.processes }
-    ensures copies { copies layout.now memories.new ≡ copies_after (copied_over desc.now (copies layout.now memories.old) recovery.now.forward (slice_get (recovered_blocks desc.now (copies layout.now memories.old) recovery.now.pid.0) recovery.now.cursor)) (copies layout.now memories.old) }
-    ensures matches { Matches layout.now memories.new }
-{
-    let next = block_at(recovery.pid, recovery.cursor, memories, layout, desc);
-    if let Some((extent, n)) = next {
-        copy_over(memories, layout, desc, extent, n, recovery.forward);
+impl Recovery<Copying> {
+    // Whether no block comes after the next one.
+    fn is_last(&self, memories: &Memories, layout: &Layout, desc: &MachineDesc) -> bool
+        requires description { IsDescription desc.now }
+        requires layout { layout.now ≡ shape_of desc.now }
+        requires matches { Matches layout.now memories.now }
+        requires needs { CopyingNeeds desc.now self.now }
+        ensures { result ≡ nat_le (length (recovered_blocks desc.now (copies layout.now memories.now) self.now.pid.0)) (self.now.cursor + 1) }
+    {
+        block_at(self.pid, self.cursor + 1, memories, layout, desc).is_none()
     }
-}
 
-/// Copies the next block over its other copy: the primary over the shadow where the recovery goes forward, else the shadow over
-/// the primary. The turn of the last block moves on. It looks at the lock word of each segment, and at one block.
-pub fn copy_turn(
-    recovery: Recovery<Copying>,
-    memories: &mut Memories,
-    layout: &Layout,
-    desc: &MachineDesc,
-) -> Step<Recovery<Copying>, Recovery<Locks>>
-    requires description { IsDescription desc.now }
-    requires layout { layout.now ≡ shape_of desc.now }
-    requires matches { Matches layout.now memories.old }
-    requires needs { CopyingNeeds desc.now recovery }
-    ensures row { IsRow (copies layout.now memories.old) (copies layout.now memories.new) (after_copying result) (λ m p. copying_move desc.now m p recovery) }
-    ensures matches { Matches layout.now memories.new }
-    ensures copying { (r : _) → result ≡ Again r → AllServe layout.now (copies layout.now memories.old) → CopyingKnows desc.now (copies layout.now memories.old) recovery → CopyingKnows desc.now (copies layout.now memories.new) r }
-    ensures locks { (r : _) → result ≡ Next r → AllServe layout.now (copies layout.now memories.old) → CopyingKnows desc.now (copies layout.now memories.old) recovery → LocksKnows desc.now (copies layout.now memories.new) r }
-{
-    let last = is_last(&recovery, memories, layout, desc);
-    copy_next(&recovery, memories, layout, desc);
-    if last {
-        Step::Next(Recovery {
-            pid: recovery.pid,
-            holder: recovery.holder,
-            forward: recovery.forward,
-            cursor: 0,
-            stage: Locks,
-        })
-    } else {
-        Step::Again(Recovery {
-            cursor: recovery.cursor + 1,
-            ..recovery
-        })
+    // Copies the next block, if there is one: forward over its shadow, back over its primary.
+    fn copy_next(&self, memories: &mut Memories, layout: &Layout, desc: &MachineDesc)
+        requires layout { layout.now ≡ shape_of desc.now }
+        requires matches { Matches layout.now memories.old }
+        requires process { self.now.pid.0 < length desc.now.processes }
+        ensures copies { copies layout.now memories.new ≡ block_copied desc.now (copies layout.now memories.old) self.now.forward (slice_get (recovered_blocks desc.now (copies layout.now memories.old) self.now.pid.0) self.now.cursor) }
+        ensures matches { Matches layout.now memories.new }
+    {
+        let next = block_at(self.pid, self.cursor, memories, layout, desc);
+        if let Some((extent, n)) = next {
+            copy_over(memories, layout, desc, extent, n, self.forward);
+        }
+    }
+
+    /// Copies the next block over its other copy: the primary over the shadow where the recovery goes forward, else the shadow over
+    /// the primary. The turn of the last block moves on. It looks at the lock word of each segment, and at one block.
+    #[tactic(auto, unfolding(crate::specs::Turns::copying_turn))]
+    pub fn turn(
+        self,
+        memories: &mut Memories,
+        layout: &Layout,
+        desc: &MachineDesc,
+    ) -> Step<Recovery<Copying>, Recovery<Locks>>
+        requires description { IsDescription desc.now }
+        requires layout { layout.now ≡ shape_of desc.now }
+        requires matches { Matches layout.now memories.old }
+        requires needs { CopyingNeeds desc.now self }
+        ensures step { result ≡ (copying_turn desc.now (copies layout.now memories.old) self).step }
+        ensures copies { copies layout.now memories.new ≡ (copying_turn desc.now (copies layout.now memories.old) self).copies }
+        ensures matches { Matches layout.now memories.new }
+        ensures copying { (r : _) → result ≡ Again r → AllServe layout.now (copies layout.now memories.old) → CopyingKnows desc.now (copies layout.now memories.old) self → CopyingKnows desc.now (copies layout.now memories.new) r }
+        ensures locks { (r : _) → result ≡ Next r → AllServe layout.now (copies layout.now memories.old) → CopyingKnows desc.now (copies layout.now memories.old) self → LocksKnows desc.now (copies layout.now memories.new) r }
+    {
+        let last = self.is_last(memories, layout, desc);
+        self.copy_next(memories, layout, desc);
+        if last {
+            Step::Next(self.into_stage(Locks))
+        } else {
+            Step::Again(Recovery {
+                cursor: self.cursor + 1,
+                ..self
+            })
+        }
     }
 }

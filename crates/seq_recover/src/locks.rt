@@ -3,20 +3,16 @@ ghost use Rattle.std.specs.Prelude.{◌≡◌, ◌*◌, ◌/◌, ◌<◌, ◌≤
 ghost use Rattle.seq_words.specs.Description.{IsDescription};
 ghost use Rattle.seq_layout.specs.Shapes.{shape_of, segment_extent};
 ghost use Rattle.seq_layout.specs.Copies.{Matches, copies, serves};
-ghost use Rattle.seq_io.specs.Changes.Change.{To_word};
 ghost use Rattle.seq_status.specs.declared.step.Step.TheVariants.{Again, Next};
-ghost use Rattle.seq_turns.specs.Machines.{copies_after};
-ghost use Rattle.seq_turns.specs.Reading.{context_of};
-ghost use Rattle.seq_turns.specs.Recoveries.{is_shadow, is_left, left_from, locks_move};
+ghost use Rattle.seq_recover.specs.Reading.{context_of, is_shadow, is_left, left_from};
+ghost use Rattle.seq_recover.specs.Turns.{lock_cleared, locks_turn};
 ghost use Rattle.seq_recover.specs.Needs.{HasContext, LocksNeeds};
-ghost use Rattle.seq_recover.specs.Rows.{IsRow, after_locks};
 ghost use Rattle.seq_recover.specs.Stands.{LocksKnows, ClosingKnows};
 
 use crate::words::{lock_word, names};
+use crate::{Closing, Locks, Recovery, Step};
 use seq_layout::Layout;
 use seq_memory::Memories;
-use seq_status::Step;
-use seq_turns::{Closing, Locks, Recovery};
 use seq_words::{MachineDesc, Pid, Seg, block_word, has_bit};
 
 /// The block of a context whose fifth number has a bit for each segment that the process holds.
@@ -88,57 +84,49 @@ fn clear(k: u8, memories: &mut Memories, layout: &Layout, desc: &MachineDesc)
     requires matches { Matches layout.now memories.old }
     requires word { k < 2 * length desc.now.segments }
     requires serves { serves (shape_of desc.now) (copies layout.now memories.old) (segment_extent (shape_of desc.now) (k / 2)) (is_shadow k) ≡ true }
-    ensures copies { copies layout.now memories.new ≡ copies_after (To_word (segment_extent (shape_of desc.now) (k / 2)) 0 (is_shadow k) 0) (copies layout.now memories.old) }
+    ensures copies { copies layout.now memories.new ≡ lock_cleared desc.now (copies layout.now memories.old) k }
     ensures matches { Matches layout.now memories.new }
 {
-    let at = lock_word(Seg(k / 2), layout, desc);
+    let at = lock_word(Seg(k / 2), layout);
     layout.write_word(memories, at, k % 2 == 0, 0);
 }
 
-/// Clears the next lock word from the cursor on that names the process and whose segment its context doesn't hold, of each segment
-/// first the shadow. The cursor is behind it then.
-/// The turn that clears the last one moves on, and so does a turn that finds none and changes nothing.
-pub fn lock_turn(
-    recovery: Recovery<Locks>,
-    memories: &mut Memories,
-    layout: &Layout,
-    desc: &MachineDesc,
-) -> Step<Recovery<Locks>, Recovery<Closing>>
-    requires description { IsDescription desc.now }
-    requires layout { layout.now ≡ shape_of desc.now }
-    requires matches { Matches layout.now memories.old }
-    requires needs { LocksNeeds desc.now (copies layout.now memories.old) recovery }
-    ensures row { IsRow (copies layout.now memories.old) (copies layout.now memories.new) (after_locks result) (λ m p. locks_move desc.now m p recovery) }
-    ensures matches { Matches layout.now memories.new }
-    ensures locks { (r : _) → result ≡ Again r → LocksKnows desc.now (copies layout.now memories.old) recovery → LocksKnows desc.now (copies layout.now memories.new) r }
-    ensures closing { (r : _) → result ≡ Next r → LocksKnows desc.now (copies layout.now memories.old) recovery → ClosingKnows desc.now (copies layout.now memories.new) r }
-{
-    let closing = Recovery {
-        pid: recovery.pid,
-        holder: recovery.holder,
-        forward: recovery.forward,
-        cursor: 0,
-        stage: Closing,
-    };
-    let held = held(recovery.pid, memories, layout, desc);
-    let Some(k) = left_from(
-        recovery.cursor as u8,
-        held,
-        recovery.pid,
-        memories,
-        layout,
-        desc,
-    ) else {
-        return Step::Next(closing);
-    };
-    let more = left_from(k + 1, held, recovery.pid, memories, layout, desc).is_some();
-    clear(k, memories, layout, desc);
-    if more {
-        Step::Again(Recovery {
-            cursor: u32::from(k) + 1,
-            ..recovery
-        })
-    } else {
-        Step::Next(closing)
+impl Recovery<Locks> {
+    /// Clears the next lock word from the cursor on that names the process and whose segment its context doesn't hold, of each segment
+    /// first the shadow. The cursor is behind it then.
+    /// The turn that clears the last one moves on, and so does a turn that finds none and changes nothing.
+    #[tactic(auto, unfolding(crate::specs::Turns::locks_turn))]
+    pub fn turn(
+        self,
+        memories: &mut Memories,
+        layout: &Layout,
+        desc: &MachineDesc,
+    ) -> Step<Recovery<Locks>, Recovery<Closing>>
+        requires description { IsDescription desc.now }
+        requires layout { layout.now ≡ shape_of desc.now }
+        requires matches { Matches layout.now memories.old }
+        requires needs { LocksNeeds desc.now (copies layout.now memories.old) self }
+        ensures step { result ≡ (locks_turn desc.now (copies layout.now memories.old) self).step }
+        ensures copies { copies layout.now memories.new ≡ (locks_turn desc.now (copies layout.now memories.old) self).copies }
+        ensures matches { Matches layout.now memories.new }
+        ensures locks { (r : _) → result ≡ Again r → LocksKnows desc.now (copies layout.now memories.old) self → LocksKnows desc.now (copies layout.now memories.new) r }
+        ensures closing { (r : _) → result ≡ Next r → LocksKnows desc.now (copies layout.now memories.old) self → ClosingKnows desc.now (copies layout.now memories.new) r }
+    {
+        let pid = self.pid;
+        let held = held(pid, memories, layout, desc);
+        let next = left_from(self.cursor as u8, held, pid, memories, layout, desc);
+        let Some(k) = next else {
+            return Step::Next(self.into_stage(Closing));
+        };
+        let more = left_from(k + 1, held, pid, memories, layout, desc).is_some();
+        clear(k, memories, layout, desc);
+        if more {
+            Step::Again(Recovery {
+                cursor: u32::from(k) + 1,
+                ..self
+            })
+        } else {
+            Step::Next(self.into_stage(Closing))
+        }
     }
 }

@@ -1,14 +1,14 @@
 // Whole recoveries of a process, back and forward, turn by turn.
-ghost use Rattle.std.specs.Prelude.{◌≡◌, ◌<◌, true, length, map, IfOk};
+ghost use Rattle.std.specs.Prelude.{◌≡◌, ◌<◌, true, map, IfOk, IfSome};
 ghost use Rattle.std.specs.List.{range_with_len};
 ghost use Rattle.seq_words.specs.Description.{IsDescription};
 ghost use Rattle.seq_samples.specs.Samples as samples;
 ghost use Rattle.seq_layout.specs.Places.{IsPlace};
 ghost use Rattle.seq_layout.specs.Shapes.{shape_of};
 ghost use Rattle.seq_layout.specs.Copies.{Matches, copies, IsServed, first_block};
-ghost use Rattle.seq_recover.specs.Needs.{HasContext, RecoveryNeeds};
+ghost use Rattle.seq_recover.specs.Needs.{HasContext};
 
-use crate::{RecoveryAt, Step, claim_turn, close_turn, copy_turn, lock_turn, start};
+use crate::{Claimed, Closing, Copying, Locks, Recovered, Recovery, Step};
 use seq_layout::{Extent, Layout, WordAt, blocks_to_context};
 use seq_memory::Memories;
 use seq_samples::two_segments;
@@ -153,71 +153,130 @@ fn has_context(memories: &Memories, layout: &Layout, desc: &MachineDesc) -> bool
         && blocks_to_context(&context_blocks(memories, layout)).is_some()
 }
 
-// Whether the next turn may be made.
-fn is_ready(at: &RecoveryAt, memories: &Memories, layout: &Layout, desc: &MachineDesc) -> bool
-    requires desc { desc.now ≡ samples.two_segments }
-    requires layout { layout.now ≡ shape_of desc.now }
-    requires matches { Matches layout.now memories.now }
-    ensures { result ≡ true → RecoveryNeeds desc.now (copies layout.now memories.now) at.now }
-{
-    match at {
-        RecoveryAt::Claimed(recovery) => {
-            recovery.pid.0 == 0 && recovery.holder.incarnation < 0x1_0000_0000
-        }
-        RecoveryAt::Copying(recovery) => recovery.pid.0 == 0 && recovery.cursor <= 12,
-        RecoveryAt::Locks(recovery) => {
-            recovery.pid.0 == 0 && recovery.cursor <= 4 && has_context(memories, layout, desc)
-        }
-        RecoveryAt::Closing(recovery) => recovery.pid.0 == 0,
-    }
+// A recovery at one of its stages, or at its end.
+#[derive(Drop)]
+enum At {
+    Claimed(Recovery<Claimed>),
+    Copying(Recovery<Copying>),
+    Locks(Recovery<Locks>),
+    Closing(Recovery<Closing>),
+    Recovered,
 }
 
-// The next turn of a recovery: what comes after it, or nothing once the process is recovered.
-fn turn(
-    at: RecoveryAt,
+// Each takes the next turn of its stage: what comes after it, or nothing where it may not be taken.
+fn claim(
+    recovery: Recovery<Claimed>,
     memories: &mut Memories,
     layout: &Layout,
     desc: &MachineDesc,
-) -> Option<RecoveryAt>
+) -> Option<At>
+    requires desc { desc.now ≡ samples.two_segments }
+    requires layout { layout.now ≡ shape_of desc.now }
+    requires matches { Matches layout.now memories.old }
+    ensures { Matches layout.now memories.new }
+{
+    if recovery.pid.0 != 0 || recovery.holder.incarnation >= 0x1_0000_0000 {
+        return None;
+    }
+    Some(match recovery.turn(memories, layout, desc) {
+        Step::Again(again) => At::Claimed(again),
+        Step::Next(next) => At::Copying(next),
+    })
+}
+
+fn copy(
+    recovery: Recovery<Copying>,
+    memories: &mut Memories,
+    layout: &Layout,
+    desc: &MachineDesc,
+) -> Option<At>
+    requires desc { desc.now ≡ samples.two_segments }
     requires description { IsDescription desc.now }
     requires layout { layout.now ≡ shape_of desc.now }
     requires matches { Matches layout.now memories.old }
-    requires needs { RecoveryNeeds desc.now (copies layout.now memories.old) at }
+    ensures { Matches layout.now memories.new }
+{
+    if recovery.pid.0 != 0 || recovery.cursor > 12 {
+        return None;
+    }
+    Some(match recovery.turn(memories, layout, desc) {
+        Step::Again(again) => At::Copying(again),
+        Step::Next(next) => At::Locks(next),
+    })
+}
+
+fn clear(
+    recovery: Recovery<Locks>,
+    memories: &mut Memories,
+    layout: &Layout,
+    desc: &MachineDesc,
+) -> Option<At>
+    requires desc { desc.now ≡ samples.two_segments }
+    requires description { IsDescription desc.now }
+    requires layout { layout.now ≡ shape_of desc.now }
+    requires matches { Matches layout.now memories.old }
+    ensures { Matches layout.now memories.new }
+{
+    if recovery.pid.0 != 0 || recovery.cursor > 4 || !has_context(memories, layout, desc) {
+        return None;
+    }
+    Some(match recovery.turn(memories, layout, desc) {
+        Step::Again(again) => At::Locks(again),
+        Step::Next(next) => At::Closing(next),
+    })
+}
+
+fn close(
+    recovery: Recovery<Closing>,
+    memories: &mut Memories,
+    layout: &Layout,
+    desc: &MachineDesc,
+) -> Option<At>
+    requires desc { desc.now ≡ samples.two_segments }
+    requires layout { layout.now ≡ shape_of desc.now }
+    requires matches { Matches layout.now memories.old }
+    ensures { Matches layout.now memories.new }
+{
+    if recovery.pid.0 != 0 {
+        return None;
+    }
+    Some(match recovery.turn(memories, layout, desc) {
+        Step::Again(again) => At::Closing(again),
+        Step::Next(Recovered) => At::Recovered,
+    })
+}
+
+// The next turn of a recovery, whatever its stage.
+fn turn(at: At, memories: &mut Memories, layout: &Layout, desc: &MachineDesc) -> Option<At>
+    requires desc { desc.now ≡ samples.two_segments }
+    requires description { IsDescription desc.now }
+    requires layout { layout.now ≡ shape_of desc.now }
+    requires matches { Matches layout.now memories.old }
     ensures { Matches layout.now memories.new }
 {
     match at {
-        RecoveryAt::Claimed(recovery) => match claim_turn(recovery, memories, layout, desc) {
-            Step::Again(again) => Some(RecoveryAt::Claimed(again)),
-            Step::Next(next) => Some(RecoveryAt::Copying(next)),
-        },
-        RecoveryAt::Copying(recovery) => match copy_turn(recovery, memories, layout, desc) {
-            Step::Again(again) => Some(RecoveryAt::Copying(again)),
-            Step::Next(next) => Some(RecoveryAt::Locks(next)),
-        },
-        RecoveryAt::Locks(recovery) => match lock_turn(recovery, memories, layout, desc) {
-            Step::Again(again) => Some(RecoveryAt::Locks(again)),
-            Step::Next(next) => Some(RecoveryAt::Closing(next)),
-        },
-        RecoveryAt::Closing(recovery) => match close_turn(recovery, memories, layout, desc) {
-            Step::Again(again) => Some(RecoveryAt::Closing(again)),
-            Step::Next(_) => None,
-        },
+        At::Claimed(recovery) => claim(recovery, memories, layout, desc),
+        At::Copying(recovery) => copy(recovery, memories, layout, desc),
+        At::Locks(recovery) => clear(recovery, memories, layout, desc),
+        At::Closing(recovery) => close(recovery, memories, layout, desc),
+        At::Recovered => None,
     }
 }
 
-// The number of a stage.
-fn stage_of(at: &RecoveryAt) -> usize
-    ensures { result < 4 }
+// The number of a stage, where the recovery isn't at its end.
+fn stage_of(at: &At) -> Option<usize>
+    ensures { IfSome result (λ n. n < 4) }
 {
     match at {
-        RecoveryAt::Claimed(_) => 0,
-        RecoveryAt::Copying(_) => 1,
-        RecoveryAt::Locks(_) => 2,
-        RecoveryAt::Closing(_) => 3,
+        At::Claimed(_) => Some(0),
+        At::Copying(_) => Some(1),
+        At::Locks(_) => Some(2),
+        At::Closing(_) => Some(3),
+        At::Recovered => None,
     }
 }
 
-// How many turns each stage of a recovery takes. None where one may not be made, or they don't end soon.
+// How many turns each stage of a recovery takes. None where one may not be taken, or they don't end soon.
 fn recover(
     forward: bool,
     memories: &mut Memories,
@@ -231,17 +290,13 @@ fn recover(
     ensures { Matches layout.now memories.new }
 {
     let mut turns: [u32; 4] = [0; 4];
-    let mut at = RecoveryAt::Claimed(start(Pid(0), HOLDER, forward));
+    let mut at = At::Claimed(Recovery::start(Pid(0), HOLDER, forward));
     for _ in 0..40 {
-        if !is_ready(&at, memories, layout, desc) {
-            return None;
-        }
-        let stage = stage_of(&at);
+        let Some(stage) = stage_of(&at) else {
+            return Some(turns);
+        };
         turns[stage] = turns[stage].saturating_add(1);
-        match turn(at, memories, layout, desc) {
-            Some(next) => at = next,
-            None => return Some(turns),
-        }
+        at = turn(at, memories, layout, desc)?;
     }
     None
 }

@@ -1,11 +1,10 @@
 // The status words and the lock words that a recovery reads and writes.
 ghost use Rattle.std.specs.Prelude.{◌≡◌, ◌<◌, length};
-ghost use Rattle.seq_layout.specs.Shapes.{shape_of};
+ghost use Rattle.seq_layout.specs.Shapes.{shape_of, segment_extent};
 ghost use Rattle.seq_layout.specs.Copies.{Matches, copies};
 ghost use Rattle.seq_status.specs.Words.{IsStatus, word_of};
-ghost use Rattle.seq_turns.specs.Machines.{copies_after};
-ghost use Rattle.seq_turns.specs.Reading.{lock_word, write_word};
-ghost use Rattle.seq_turns.specs.Recoveries.{names};
+ghost use Rattle.seq_recover.specs.Reading.{names};
+ghost use Rattle.seq_recover.specs.Turns.{status_set};
 
 use seq_layout::{Layout, WordAt};
 use seq_memory::Memories;
@@ -13,10 +12,9 @@ use seq_status::{Status, to_word};
 use seq_words::{MachineDesc, Pid, Seg};
 
 /// The lock word of a segment.
-pub fn lock_word(segment: Seg, layout: &Layout, desc: &MachineDesc) -> WordAt
-    requires layout { layout.now ≡ shape_of desc.now }
-    requires segment { segment.0 < length desc.now.segments }
-    ensures { result ≡ lock_word desc.now segment.0 }
+pub fn lock_word(segment: Seg, layout: &Layout) -> WordAt
+    requires { segment.0 < layout.now.segments }
+    ensures { result ≡ record { extent = record { 0 = segment_extent layout.now segment.0 }; word = 0 } }
 {
     WordAt {
         extent: layout.segment(segment),
@@ -37,7 +35,7 @@ pub fn write_status(
     requires matches { Matches layout.now memories.old }
     requires process { pid.0 < length desc.now.processes }
     requires status { IsStatus status.now }
-    ensures copies { copies layout.now memories.new ≡ copies_after (write_word desc.now (copies layout.now memories.old) pid.0 0 shadow (word_of status.now)) (copies layout.now memories.old) }
+    ensures copies { copies layout.now memories.new ≡ status_set desc.now (copies layout.now memories.old) pid.0 shadow (word_of status.now) }
     ensures matches { Matches layout.now memories.new }
 {
     let at = WordAt {
@@ -61,7 +59,7 @@ pub fn names(
     requires segment { segment.0 < length desc.now.segments }
     ensures { result ≡ names desc.now (copies layout.now memories.now) pid.0 segment.0 shadow }
 {
-    let at = lock_word(segment, layout, desc);
+    let at = lock_word(segment, layout);
     layout.serves(memories, at.extent, shadow)
         && layout.read_word(memories, at, shadow) == u64::from(pid.0) + 1
 }

@@ -22,18 +22,19 @@ use Rattle.seq_turns.specs.declared.hand.FlushAt.{FlushAt}
 use Rattle.seq_turns.specs.declared.hand.FlushAt.TheVariants as flush
 use Rattle.seq_turns.specs.declared.hand.ReleaseAt.{ReleaseAt}
 use Rattle.seq_turns.specs.declared.hand.ReleaseAt.TheVariants as release
-use Rattle.seq_turns.specs.declared.recovery.RecoveryAt.{RecoveryAt}
-use Rattle.seq_turns.specs.declared.recovery.RecoveryAt.TheVariants as recovery
+use Rattle.seq_turns.specs.declared.hand.RecoveryAt.{RecoveryAt}
+use Rattle.seq_turns.specs.declared.hand.RecoveryAt.TheVariants as recovery
 use Rattle.seq_turns.specs.Functions.{lowest}
 use Rattle.seq_turns.specs.Machines.{Machine, Move, Turn, idles}
 use Rattle.seq_turns.specs.Machines.Turn.{Moves, Looks, Copies_unit, Stops}
 use Rattle.seq_turns.specs.Reading.{context_of, is_amid}
 use Rattle.seq_turns.specs.Causes.{agree, flushes, finds, follows, release_next, after_releases}
 use Rattle.seq_turns.specs.Operations.{taken_up, flush_move, less, unit_count}
-use Rattle.seq_turns.specs.Recoveries as table
-use Rattle.seq_turns.specs.Recoveries.{recovered_blocks, left_from, after_clearing, locks_cleared, recovery_move}
+use Rattle.seq_recover.specs.Turns as recovering
+use Rattle.seq_recover.specs.Reading.{recovered_blocks, left_from}
+use Rattle.seq_turns.specs.Recoveries.{after_clearing, locks_cleared, recovery_move}
 use Rattle.seq_turns.specs.Processors.{turn}
-use Rattle.seq_turns.proofs.LeftFrom.{left_passes}
+use Rattle.seq_recover.proofs.LeftFrom.{left_passes}
 use Rattle.seq_stands.specs.Hands.{IsHand}
 use Rattle.seq_stands.specs.FitHands.{MaskFits, HandFits}
 use Rattle.seq_stands.specs.Fit.{FlushAtFits, RecoveryAtFits, HandHolds, Fit}
@@ -142,7 +143,7 @@ module _ (d : MachineDesc) where
     recovered (recovery.Claimed r) fits = let few = fits.turns in cond_both (r.cursor == 0) _ _ (Leaves (recovery_left d (recovery.Claimed r)))
         (λ z. let first = eqb-true r.cursor 0 z in omega (arith, first)) (λ _. omega (arith, few))
     recovered (recovery.Copying r) fits = let few = fits.turns in
-        cond_both (nat_le (length (recovered_blocks d m.copies r.pid.0)) (r.cursor + 1)) (recovery.Locks (table.into_stage r (record {}))) (recovery.Copying (record r { cursor = r.cursor + 1 })) (λ x. recovery_left d x < recovery_left d (recovery.Copying r))
+        cond_both (nat_le (length (recovered_blocks d m.copies r.pid.0)) (r.cursor + 1)) (recovery.Locks (recovering.into_stage r (record {}))) (recovery.Copying (record r { cursor = r.cursor + 1 })) (λ x. recovery_left d x < recovery_left d (recovery.Copying r))
         (λ _. omega (arith, few)) (λ _. omega (arith, few))
     recovered (recovery.Locks r) fits = go (left_from d m.copies r.pid.0 r.cursor) refl
       where

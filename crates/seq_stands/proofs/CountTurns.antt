@@ -26,15 +26,16 @@ use Rattle.seq_turns.specs.declared.hand.Hand.TheVariants as hand
 use Rattle.seq_turns.specs.declared.hand.FlushAt.{FlushAt}
 use Rattle.seq_turns.specs.declared.hand.FlushAt.TheVariants as flush
 use Rattle.seq_turns.specs.declared.hand.ReleaseAt.TheVariants as release
-use Rattle.seq_turns.specs.declared.recovery.RecoveryAt.{RecoveryAt}
-use Rattle.seq_turns.specs.declared.recovery.RecoveryAt.TheVariants as recovery
+use Rattle.seq_turns.specs.declared.hand.RecoveryAt.{RecoveryAt}
+use Rattle.seq_turns.specs.declared.hand.RecoveryAt.TheVariants as recovery
 use Rattle.seq_turns.specs.Functions.{lowest}
 use Rattle.seq_turns.specs.Machines.{Machine, Move, Turn, idles}
 use Rattle.seq_turns.specs.Machines.Turn.{Moves, Looks, Copies_unit, Stops}
 use Rattle.seq_turns.specs.Reading.{lock_word, copied_memory, context_of}
 use Rattle.seq_turns.specs.Causes.{agree, released, flushes, finds, follows, release_next, after_releases}
 use Rattle.seq_turns.specs.Operations.{taken_up, flush_move, less, unit_count}
-use Rattle.seq_turns.specs.Recoveries.{left_from, locks_cleared, recovery_move}
+use Rattle.seq_recover.specs.Reading.{left_from}
+use Rattle.seq_turns.specs.Recoveries.{locks_cleared, recovery_move}
 use Rattle.seq_turns.specs.Processors.{is_free, deserted, seeks, acquisition, after_step, runs, someone_amid, copies_or_waits, seeks_or_copies, runs_or_copies, turn}
 use Rattle.seq_stands.specs.CountAhead.{flush_ahead, ahead}
 use Rattle.seq_stands.specs.Counts.{CommitsLate}

@@ -21,8 +21,8 @@ use Rattle.seq_turns.specs.declared.hand.Hand.TheVariants as hand
 use Rattle.seq_turns.specs.declared.hand.FlushAt.{FlushAt}
 use Rattle.seq_turns.specs.declared.hand.FlushAt.TheVariants as flush
 use Rattle.seq_turns.specs.declared.hand.ReleaseAt.TheVariants as release
-use Rattle.seq_turns.specs.declared.recovery.RecoveryAt.{RecoveryAt}
-use Rattle.seq_turns.specs.declared.recovery.RecoveryAt.TheVariants as recovery
+use Rattle.seq_turns.specs.declared.hand.RecoveryAt.{RecoveryAt}
+use Rattle.seq_turns.specs.declared.hand.RecoveryAt.TheVariants as recovery
 use Rattle.seq_kernel.specs.declared.outcomes.Note.TheVariants.{Found}
 use Rattle.seq_turns.specs.Machines.{Machine, Change, Move, Turn, idles}
 use Rattle.seq_io.specs.Changes.Change.{Unchanged, To_block, To_word}
@@ -30,10 +30,11 @@ use Rattle.seq_turns.specs.Machines.Turn.{Moves, Looks, Copies_unit, Stops}
 use Rattle.seq_turns.specs.Reading.{status_word, lock_word, write_word, write_block, copied_memory, is_deserted, ruling as status_now}
 use Rattle.seq_turns.specs.Causes.{agree, released, flushes, finds}
 use Rattle.seq_turns.specs.Operations.{flush_move, unit_count}
-use Rattle.seq_turns.specs.Recoveries.{left_from, locks_cleared, copied_over, recovery_move}
+use Rattle.seq_recover.specs.Reading.{left_from}
+use Rattle.seq_turns.specs.Recoveries.{locks_cleared, copied_over, recovery_move}
 use Rattle.seq_turns.specs.Processors.{is_free, looks, deserted, seeks, after_step, runs, someone_amid, copies_or_waits, seeks_or_copies, runs_or_copies, turn}
 use Rattle.seq_turns.proofs.Functions.{lowest_passes}
-use Rattle.seq_turns.proofs.LeftFrom.{left_passes}
+use Rattle.seq_recover.proofs.LeftFrom.{left_passes}
 use Rattle.seq_stands.specs.Grips.{Stage, grip}
 use Rattle.seq_stands.specs.Grips.Grip.{On}
 use Rattle.seq_stands.specs.Words.{words_of, GripHolds, Grips}

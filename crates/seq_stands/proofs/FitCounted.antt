@@ -9,7 +9,7 @@ use Rattle.seq_words.specs.declared.description.MachineDesc.{MachineDesc}
 use Rattle.seq_layout.specs.Shapes.{shape_of, blocks_of, segment_extent}
 use Rattle.seq_layout.specs.Copies.{Copies}
 use Rattle.seq_layout.proofs.Sizes.{length_blocks}
-use Rattle.seq_turns.specs.Recoveries.{names, blocks_in, blocks_below, recovered_blocks}
+use Rattle.seq_recover.specs.Reading.{names, blocks_in, blocks_below, recovered_blocks}
 
 summed : (xs : List ℕ) (j : ℕ) → j < length xs → sum (take (suc j) xs) ≡ sum (take j xs) + get_or xs j 0
 summed xs j inside = ap (λ i. sum (take i xs)) (sym (add-one j)) ∙ sum_by_more (λ x. x) xs j 0 inside

@@ -48,8 +48,8 @@ use Rattle.seq_turns.specs.declared.hand.FlushAt.{FlushAt}
 use Rattle.seq_turns.specs.declared.hand.FlushAt.TheVariants as flush
 use Rattle.seq_turns.specs.declared.hand.ReleaseAt.{ReleaseAt}
 use Rattle.seq_turns.specs.declared.hand.ReleaseAt.TheVariants as release
-use Rattle.seq_turns.specs.declared.recovery.RecoveryAt.{RecoveryAt}
-use Rattle.seq_turns.specs.declared.recovery.RecoveryAt.TheVariants as recovery
+use Rattle.seq_turns.specs.declared.hand.RecoveryAt.{RecoveryAt}
+use Rattle.seq_turns.specs.declared.hand.RecoveryAt.TheVariants as recovery
 use Rattle.seq_turns.specs.Functions.{lowest, update}
 use Rattle.seq_turns.specs.Machines.{Machine, Change, Move, Turn, idles, blocks_after}
 use Rattle.seq_io.specs.Changes.Change.{Unchanged, To_block, To_word}
@@ -57,7 +57,8 @@ use Rattle.seq_turns.specs.Machines.Turn.{Moves, Looks, Copies_unit, Stops}
 use Rattle.seq_turns.specs.Reading.{lock_word, write_word, write_block, copied_memory, context_of}
 use Rattle.seq_turns.specs.Causes.{agree, released, flushes, finds, follows, release_next, after_releases}
 use Rattle.seq_turns.specs.Operations.{taken_up, acquires, committed, flush_move, less, unlock_move, leave_move, unit_count}
-use Rattle.seq_turns.specs.Recoveries.{copy_on, left_from, locks_cleared, copied_over, recovery_move, unit_taken, next_of, unit_copied}
+use Rattle.seq_recover.specs.Reading.{left_from}
+use Rattle.seq_turns.specs.Recoveries.{copy_on, locks_cleared, copied_over, recovery_move, unit_taken, next_of, unit_copied}
 use Rattle.seq_turns.specs.Processors.{is_free, looks, deserted, seeks, acquisition, after_step, runs, someone_amid, copies_or_waits, seeks_or_copies, runs_or_copies, turn}
 use Rattle.seq_turns.specs.Duties.{Duty, duty, tells_sent, takes, closes, goal, is_below, is_at, differs, may_send, rests}
 use Rattle.seq_turns.specs.Events.{stopped, is_down, comes_back, strikes, after_turn}

@@ -8,17 +8,19 @@ use Rattle.seq_layout.specs.Shapes.{blocks_of}
 use Rattle.seq_kernel.specs.Bounds.{AreReadable}
 use Rattle.seq_turns.specs.declared.hand.Hand.{Hand}
 use Rattle.seq_turns.specs.declared.hand.Hand.TheVariants as hand
-use Rattle.seq_turns.specs.declared.recovery.Recovery.{Recovery}
-use Rattle.seq_turns.specs.declared.recovery.Locks as locks_stage
-use Rattle.seq_turns.specs.declared.recovery.RecoveryAt.{RecoveryAt}
-use Rattle.seq_turns.specs.declared.recovery.RecoveryAt.TheVariants as recovery
+use Rattle.seq_recover.specs.declared.recovery.Recovery.{Recovery}
+use Rattle.seq_recover.specs.declared.recovery.Locks as locks_stage
+use Rattle.seq_turns.specs.declared.hand.RecoveryAt.{RecoveryAt}
+use Rattle.seq_turns.specs.declared.hand.RecoveryAt.TheVariants as recovery
 use Rattle.seq_turns.specs.Machines.{Machine, Move, Turn}
 use Rattle.seq_turns.specs.Machines.Turn.{Moves, Looks, Copies_unit, Stops}
 use Rattle.seq_turns.specs.Reading.{copied_memory, is_deserted, ruling as status_now}
-use Rattle.seq_turns.specs.Recoveries.{into_stage, recovered_blocks, left_from, after_clearing, locks_cleared, recovery_move}
+use Rattle.seq_recover.specs.Reading.{recovered_blocks, left_from}
+use Rattle.seq_recover.specs.Turns.{into_stage}
+use Rattle.seq_turns.specs.Recoveries.{after_clearing, locks_cleared, recovery_move}
 use Rattle.seq_turns.specs.Processors.{next_process, is_free, looks, deserted, seeks, someone_amid, copies_or_waits, seeks_or_copies, runs_or_copies, turn}
 use Rattle.seq_turns.proofs.Functions.{lowest_passes}
-use Rattle.seq_turns.proofs.LeftFrom.{left_passes}
+use Rattle.seq_recover.proofs.LeftFrom.{left_passes}
 use Rattle.seq_stands.specs.FitHands.{HandFits}
 use Rattle.seq_stands.specs.FitBlocks.{BlocksFit, AreWhole}
 use Rattle.seq_stands.specs.Fit.{RecoveryAtFits, HandHolds}

@@ -12,7 +12,7 @@ use Rattle.seq_layout.specs.Units.{units_of}
 use Rattle.seq_layout.proofs.Sizes.{process_is_extent, segment_is_extent}
 use Rattle.seq_turns.specs.declared.hand.Hand.{Hand}
 use Rattle.seq_turns.specs.declared.hand.Hand.TheVariants as hand
-use Rattle.seq_turns.specs.declared.recovery.RecoveryAt.{RecoveryAt}
+use Rattle.seq_turns.specs.declared.hand.RecoveryAt.{RecoveryAt}
 use Rattle.seq_turns.specs.Machines.{Machine}
 use Rattle.seq_turns.specs.Reading.{is_amid}
 use Rattle.seq_turns.specs.Recoveries.{with_unit}

@@ -20,7 +20,7 @@ use Rattle.seq_ruling.specs.Lowest.{lowest}
 use Rattle.seq_turns.specs.Functions.{update, update_copy}
 use Rattle.seq_turns.specs.Reading.{context_of}
 use Rattle.seq_turns.specs.Causes.{agree}
-use Rattle.seq_turns.specs.Recoveries.{recovered_blocks}
+use Rattle.seq_recover.specs.Reading.{recovered_blocks}
 use Rattle.seq_turns.specs.WorkedRecoveries.{RecoveryGoesBack, RecoveryGoesForward, MemoryIsCopied}
 
 pub recovery_goes_back : RecoveryGoesBack

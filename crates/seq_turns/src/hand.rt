@@ -1,8 +1,8 @@
-use crate::RecoveryAt;
 use seq_flush::{Close, First, Flush, Mark, Second};
 use seq_kernel::Cause;
 use seq_locks::{Claim, Primary, Release, Shadow};
 use seq_process::Running;
+use seq_recover::{Claimed, Closing, Copying, Locks, Recovery};
 use seq_words::{Pid, Seg};
 
 /// A flush at one of its stages.
@@ -19,6 +19,15 @@ pub enum FlushAt {
 pub enum ReleaseAt {
     Shadow(Release<Shadow>),
     Primary(Release<Primary>),
+}
+
+/// A recovery at one of its stages.
+#[derive(Drop, Debug)]
+pub enum RecoveryAt {
+    Claimed(Recovery<Claimed>),
+    Copying(Recovery<Copying>),
+    Locks(Recovery<Locks>),
+    Closing(Recovery<Closing>),
 }
 
 /// What a processor is about. A mask has a bit for each segment that the cause has still to release.

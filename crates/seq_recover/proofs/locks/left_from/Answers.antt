@@ -1,7 +1,7 @@
 use Rattle.std.proofs.Common.{◌<◌, ◌*◌, length, sym, ap, ◌∙◌, arith}
 use Rattle.seq_layout.specs.Shapes.{Shape}
 use Rattle.seq_layout.specs.Copies.{copies}
-use Rattle.seq_recover.proofs.Lowest.{none_before, one_more, found_at}
+use Rattle.seq_recover.proofs.LeftFrom.{none_before, one_more, found_at}
 use Rattle.seq_recover.proofs.locks.left_from.Goals as goal
 
 pub loop-k-init : goal.loop-k-init

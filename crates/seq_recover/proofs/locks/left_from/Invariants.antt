@@ -1,7 +1,7 @@
 use Rattle.std.proofs.Common.{◌≡◌, ◌≤◌, None}
 use Rattle.seq_layout.specs.Copies.{copies}
 use Rattle.seq_ruling.specs.Lowest.{lowest}
-use Rattle.seq_recover.proofs.Lowest.{test}
+use Rattle.seq_recover.proofs.LeftFrom.{test}
 use Rattle.seq_recover.proofs.locks.left_from.Given as goal
 
 -- no lock word below the next one is to be cleared

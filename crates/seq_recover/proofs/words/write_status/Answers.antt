@@ -1,12 +1,9 @@
 use Rattle.std.proofs.Common.{◌∙◌}
 use Rattle.seq_layout.specs.Copies.{copies, word_written}
-use Rattle.seq_status.specs.Words.{word_of}
-use Rattle.seq_turns.proofs.Landed.{word_is}
 use Rattle.seq_recover.proofs.words.write_status.Goals as goal
 
 pub returns-clause-copies : goal.returns-clause-copies
 returns-clause-copies c =
     let p = copies c.args.layout.now c.args.memories.now in
     c.write_word.ensures.written ∙
-    (λ i. word_written (c.requires.layout i) p (c.process.ensures i) 0 c.args.shadow (c.to_word.ensures.word i)) ∙
-    word_is c.args.desc.now p c.args.pid.0 0 c.args.shadow (word_of c.args.status.now)
+    (λ i. word_written (c.requires.layout i) p (c.process.ensures i) 0 c.args.shadow (c.to_word.ensures.word i))
