@@ -9,8 +9,6 @@ mod machine;
 mod memory;
 mod state;
 mod steps;
-#[cfg(test)]
-mod tests;
 
 pub use inputs::{Inputs, LineInput};
 pub use laws::{

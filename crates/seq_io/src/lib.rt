@@ -10,10 +10,3 @@ mod turns;
 pub use element::{IoElement, IoNote, PortState};
 pub use laws::machines_are_wired;
 pub use turns::turn;
-
-#[cfg(test)]
-mod bench;
-#[cfg(test)]
-mod course_tests;
-#[cfg(test)]
-mod tests;

@@ -7,8 +7,6 @@ mod fields;
 mod instr;
 mod laws;
 mod opcodes;
-#[cfg(test)]
-mod tests;
 
 pub use decoding::decode;
 pub use encoding::encode;

@@ -20,8 +20,3 @@ pub use turn_laws::{
     halves_stay, shown_by_the_area, turns_depend_on_the_area, turns_have_their_cause,
 };
 pub use view::View;
-
-#[cfg(test)]
-mod step_tests;
-#[cfg(test)]
-mod tests;

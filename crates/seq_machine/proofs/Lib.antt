@@ -27,4 +27,3 @@ pub mod Held
 pub mod Readiness
 pub mod Making
 pub mod Settleable
-pub mod Staged

@@ -1,20 +1,56 @@
--- Turns of recoveries: their notes, caches and commits, and what they read.
-use Rattle.std.proofs.Common.{◌≡◌, ℕ, ◌==◌, Option, Some, None, refl, inl, inr}
+-- Turns of recoveries: their rows, notes, caches and commits, and what they read.
+use Rattle.std.proofs.Common.{◌≡◌, ℕ, ◌==◌, Option, Some, None, refl, ap, ◌∙◌, inl, inr}
 use Rattle.std.proofs.lemmas.Bool.{cases_Bool}
 use Rattle.seq_words.specs.declared.description.MachineDesc.{MachineDesc}
 use Rattle.seq_kernel.specs.declared.outcomes.Note.TheVariants.{Moved}
-use Rattle.seq_turns.specs.declared.recovery.Claimed.{Claimed}
-use Rattle.seq_turns.specs.declared.recovery.Closing.{Closing}
-use Rattle.seq_turns.specs.declared.recovery.Locks.{Locks}
-use Rattle.seq_turns.specs.declared.recovery.Recovery.{Recovery}
-use Rattle.seq_turns.specs.declared.recovery.RecoveryAt.{RecoveryAt}
-use Rattle.seq_turns.specs.declared.recovery.RecoveryAt.TheVariants as at
+use Rattle.seq_recover.specs.declared.recovery.Claimed.{Claimed}
+use Rattle.seq_recover.specs.declared.recovery.Copying.{Copying}
+use Rattle.seq_recover.specs.declared.recovery.Closing.{Closing}
+use Rattle.seq_recover.specs.declared.recovery.Recovered.{Recovered}
+use Rattle.seq_recover.specs.declared.recovery.Locks.{Locks}
+use Rattle.seq_recover.specs.declared.recovery.Recovery.{Recovery}
+use Rattle.seq_recover.specs.Turns.{claimed_turn, copying_turn, locks_turn, closing_turn}
+use Rattle.seq_layout.specs.Copies.{Copies}
+use Rattle.seq_status.specs.declared.step.Step.{Step}
+use Rattle.seq_turns.specs.declared.hand.Hand.{Hand}
+use Rattle.seq_turns.specs.declared.hand.RecoveryAt.{RecoveryAt}
+use Rattle.seq_turns.specs.declared.hand.RecoveryAt.TheVariants as at
 use Rattle.seq_turns.specs.Machines.{Machine, Move}
 use Rattle.seq_turns.specs.Reading.{ruling, goes_forward}
 use Rattle.seq_turns.specs.Processors.{is_free, looks, seeks}
-use Rattle.seq_turns.specs.Recoveries.{left_from, begins, claimed_move, locks_cleared, closing_move, recovery_move}
+use Rattle.seq_recover.specs.Reading.{left_from}
+use Rattle.seq_turns.specs.Recoveries.{begins, claimed_move, copying_move, locks_cleared, locks_move, closing_move, recovery_move}
+use Rattle.seq_turns.specs.Landed.{after_claimed, after_copying, after_locks, after_closing}
+use Rattle.seq_turns.proofs.Landed.{recovery_turns_agree}
 use Rattle.seq_machine.specs.Here.{here, turned, cache_after}
+use Rattle.seq_machine.specs.Rows.{IsRow, holding}
 use Rattle.seq_machine.specs.Processors.{cache_left}
+
+-- the row of a turn of each stage, by what it leaves
+module _ (d : MachineDesc) (p now : Copies) (h : Hand) where
+  pub claimed_row : (r : Recovery Claimed) (step : Step (Recovery Claimed) (Recovery Copying)) → now ≡ (claimed_turn d p r).copies → step ≡ (claimed_turn d p r).step → h ≡ after_claimed step → IsRow p now h (λ m i. claimed_move d m i r)
+  claimed_row r step left goes after = record {
+    hands = λ m i. after ∙ ap after_claimed goes ∙ ((recovery_turns_agree d (holding p m) i).claimed r).hands;
+    copies = λ m i. left ∙ ((recovery_turns_agree d (holding p m) i).claimed r).copies;
+  }
+
+  pub copying_row : (r : Recovery Copying) (step : Step (Recovery Copying) (Recovery Locks)) → now ≡ (copying_turn d p r).copies → step ≡ (copying_turn d p r).step → h ≡ after_copying step → IsRow p now h (λ m i. copying_move d m i r)
+  copying_row r step left goes after = record {
+    hands = λ m i. after ∙ ap after_copying goes ∙ ((recovery_turns_agree d (holding p m) i).copying r).hands;
+    copies = λ m i. left ∙ ((recovery_turns_agree d (holding p m) i).copying r).copies;
+  }
+
+  pub locks_row : (r : Recovery Locks) (step : Step (Recovery Locks) (Recovery Closing)) → now ≡ (locks_turn d p r).copies → step ≡ (locks_turn d p r).step → h ≡ after_locks step → IsRow p now h (λ m i. locks_move d m i r)
+  locks_row r step left goes after = record {
+    hands = λ m i. after ∙ ap after_locks goes ∙ ((recovery_turns_agree d (holding p m) i).locks r).hands;
+    copies = λ m i. left ∙ ((recovery_turns_agree d (holding p m) i).locks r).copies;
+  }
+
+  pub closing_row : (r : Recovery Closing) (step : Step (Recovery Closing) Recovered) → now ≡ (closing_turn d p r).copies → step ≡ (closing_turn d p r).step → h ≡ after_closing step → IsRow p now h (λ m i. closing_move d m i r)
+  closing_row r step left goes after = record {
+    hands = λ m i. after ∙ ap after_closing goes ∙ ((recovery_turns_agree d (holding p m) i).closing r).hands;
+    copies = λ m i. left ∙ ((recovery_turns_agree d (holding p m) i).closing r).copies;
+  }
 
 -- a move of processor p as one of a recovery is: it keeps the cache, and commits nothing
 pub record Recovers (m : Machine) (p : ℕ) (move : Move) : Type 0 where

@@ -17,8 +17,8 @@ use Rattle.seq_status.specs.declared.status.Status.TheVariants.{Idle, Run, Pass1
 use Rattle.seq_status.specs.Words.{IsStatusWord, status_of}
 use Rattle.seq_locks.specs.Turns.{is_taken}
 use Rattle.seq_process.specs.declared.running.Running.{Running}
-use Rattle.seq_turns.specs.declared.recovery.RecoveryAt.{RecoveryAt}
-use Rattle.seq_turns.specs.declared.recovery.RecoveryAt.TheVariants as recovery
+use Rattle.seq_turns.specs.declared.hand.RecoveryAt.{RecoveryAt}
+use Rattle.seq_turns.specs.declared.hand.RecoveryAt.TheVariants as recovery
 use Rattle.seq_turns.specs.declared.hand.Hand.{Hand}
 use Rattle.seq_turns.specs.declared.hand.Hand.TheVariants as hand
 use Rattle.seq_turns.specs.Machines.{Machine}
@@ -28,9 +28,8 @@ use Rattle.seq_stands.specs.Hands.{IsHand, IsRecoveryAt}
 use Rattle.seq_stands.specs.Fit.{StateFits, StatesFit, RecoveryAtFits, HandHolds, Fit}
 use Rattle.seq_stands.specs.FitNumbers.{HandBelow, NumbersFit}
 use Rattle.seq_stands.proofs.FitGives.{fit_gives}
-use Rattle.seq_recover.specs.Needs.{RecoveryNeeds}
 use Rattle.seq_reintegrate.specs.Needs.{CopyingNeeds}
-use Rattle.seq_machine.specs.Needs.{NeedsOf}
+use Rattle.seq_machine.specs.Needs.{NeedsOf, RecoveryNeeds}
 use Rattle.seq_machine.specs.Plain.{machine_of, IsHardware}
 use Rattle.seq_machine.specs.Starting.{no_outside}
 use Rattle.seq_machine.specs.Processors.{RunNeeds, SeekNeeds, TurnNeeds, MayTurn}

@@ -3,6 +3,7 @@ pub mod Plain
 pub mod Runs
 pub mod Processors
 pub mod Needs
+pub mod Rows
 pub mod Flushes
 pub mod Local
 pub mod Starting

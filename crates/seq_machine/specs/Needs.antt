@@ -17,12 +17,15 @@ use Rattle.seq_flush.specs.declared.flush.Flush.{Flush}
 use Rattle.seq_locks.specs.declared.claim.Claim.{Claim}
 use Rattle.seq_locks.specs.declared.stages.Shadow.{Shadow}
 use Rattle.seq_locks.specs.Turns.{is_taken, word_at}
+use Rattle.seq_recover.specs.Needs.{ClaimedNeeds, CopyingNeeds, LocksNeeds, ClosingNeeds}
 use Rattle.seq_turns.specs.declared.hand.Hand.{Hand}
 use Rattle.seq_turns.specs.declared.hand.Hand.TheVariants as hand
 use Rattle.seq_turns.specs.declared.hand.FlushAt.{FlushAt}
 use Rattle.seq_turns.specs.declared.hand.FlushAt.TheVariants as flush
 use Rattle.seq_turns.specs.declared.hand.ReleaseAt.{ReleaseAt}
 use Rattle.seq_turns.specs.declared.hand.ReleaseAt.TheVariants as release
+use Rattle.seq_turns.specs.declared.hand.RecoveryAt.{RecoveryAt}
+use Rattle.seq_turns.specs.declared.hand.RecoveryAt.TheVariants as recovery
 use Rattle.seq_turns.specs.Reading.{status_word, lock_word, context_of}
 
 -- the processor is amid an operation, and that isn't a recovery
@@ -122,3 +125,10 @@ NeedsOf d p cache (hand.Flushing r cause mask f) = FlushingNeeds (shape_of d) ca
 NeedsOf d p cache (hand.Unlocking r cause mask l) = UnlockNeeds d mask l
 NeedsOf d p cache (hand.Leaving q l) = LeaveNeeds d q.0 l
 NeedsOf d p cache (hand.Recovering r) = Unit {0}
+
+-- what a turn of a recovery needs, by its stage
+abbrev pub RecoveryNeeds : MachineDesc → Copies → RecoveryAt → Type 0
+RecoveryNeeds d p (recovery.Claimed r) = ClaimedNeeds d r
+RecoveryNeeds d p (recovery.Copying r) = CopyingNeeds d r
+RecoveryNeeds d p (recovery.Locks r) = LocksNeeds d p r
+RecoveryNeeds d p (recovery.Closing r) = ClosingNeeds d r

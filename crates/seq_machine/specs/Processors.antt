@@ -20,9 +20,8 @@ use Rattle.seq_turns.specs.Machines.Turn.{Moves, Looks, Copies_unit, Stops}
 use Rattle.seq_io.specs.Changes.Change.{Unchanged}
 use Rattle.seq_turns.specs.Reading.{status_word, lock_word, copied_memory}
 use Rattle.seq_turns.specs.Processors.{is_free, deserted, seeks, runs, turn}
-use Rattle.seq_recover.specs.Needs.{RecoveryNeeds}
 use Rattle.seq_machine.specs.Here.{here, among, turned, cache_after}
-use Rattle.seq_machine.specs.Needs.{MayBeSaved, NeedsOf}
+use Rattle.seq_machine.specs.Needs.{MayBeSaved, NeedsOf, RecoveryNeeds}
 use Rattle.seq_machine.specs.Checking.{MayBeChecked}
 use Rattle.seq_machine.specs.declared.turned.Turned.{Turned}
 use Rattle.seq_machine.specs.declared.turned.Turned.TheVariants as left

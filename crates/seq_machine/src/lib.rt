@@ -31,12 +31,3 @@ pub use laws::{local_turns_copy_nothing, operations_are_local, operations_move_o
 pub use seq_io::{IoElement, PortState};
 pub use seq_kernel::Note;
 pub use seq_turns::{FlushAt, Hand, RecoveryAt, ReleaseAt};
-
-#[cfg(test)]
-mod programs;
-#[cfg(test)]
-mod stage;
-#[cfg(test)]
-mod strike_tests;
-#[cfg(test)]
-mod tests;

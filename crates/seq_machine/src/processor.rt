@@ -4,17 +4,16 @@ ghost use Rattle.seq_words.specs.Description.{IsDescription};
 ghost use Rattle.seq_layout.specs.Shapes.{shape_of};
 ghost use Rattle.seq_layout.specs.Copies.{Matches, copies};
 ghost use Rattle.seq_process.specs.declared.running.Running.{Running};
-ghost use Rattle.seq_turns.specs.declared.recovery.RecoveryAt.{RecoveryAt};
+ghost use Rattle.seq_turns.specs.declared.hand.RecoveryAt.{RecoveryAt};
 ghost use Rattle.seq_turns.specs.declared.hand.Hand.TheVariants as hand;
 ghost use Rattle.seq_turns.specs.Machines.{copies_after};
 ghost use Rattle.seq_turns.specs.Machines.Turn.{Moves};
 ghost use Rattle.seq_turns.specs.Recoveries.{recovery_move};
-ghost use Rattle.seq_recover.specs.Needs.{RecoveryNeeds};
 ghost use Rattle.seq_turns.specs.Processors.{runs, turn};
 ghost use Rattle.seq_turns.specs.Events.{happens};
 ghost use Rattle.seq_turns.specs.Reading.{copied_memory};
 ghost use Rattle.seq_machine.specs.Here.{here, turned, change_of};
-ghost use Rattle.seq_machine.specs.Needs.{IsOperating, NeedsOf};
+ghost use Rattle.seq_machine.specs.Needs.{IsOperating, NeedsOf, RecoveryNeeds};
 ghost use Rattle.seq_machine.specs.Plain.{Outside, IsHardware, processor_of, machine_of, outside_of};
 ghost use Rattle.seq_machine.specs.Settling.{held_copies};
 ghost use Rattle.seq_machine.specs.Checking.{answer};
@@ -143,10 +142,11 @@ impl Processor {
         ensures copies { (r : RecoveryAt) (i pe : ℕ) → self.old.hand ≡ hand.Recovering r → copies layout.now memories.new ≡ copies_after (recovery_move desc.now (here (copies layout.now memories.old) self.old.cache i) pe r).change (copies layout.now memories.old) }
         ensures matches { Matches layout.now memories.new }
     {
-        let Hand::Recovering(recovery) = &self.hand else {
+        let hand = mem::replace(&mut self.hand, Hand::Seek);
+        let Hand::Recovering(recovery) = hand else {
             unreachable!();
         };
-        self.hand = recovering(*recovery, memories, layout, desc);
+        self.hand = recovering(recovery, memories, layout, desc);
         Note::Moved
     }
 

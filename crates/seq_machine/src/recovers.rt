@@ -9,16 +9,14 @@ ghost use Rattle.seq_ruling.specs.Ruling.{process, HaveRulingWords, AreHeldByOne
 ghost use Rattle.seq_turns.specs.Reading.{goes_forward};
 ghost use Rattle.seq_turns.specs.Recoveries.{recovers, recovery_move};
 ghost use Rattle.seq_turns.specs.Processors.{deserted};
-ghost use Rattle.seq_recover.specs.Needs.{RecoveryNeeds};
-ghost use Rattle.seq_recover.specs.Rows.{IsRow, after_claimed, after_copying, after_locks, after_closing};
+ghost use Rattle.seq_turns.specs.Landed.{after_claimed, after_copying, after_locks, after_closing};
+ghost use Rattle.seq_machine.specs.Needs.{RecoveryNeeds};
+ghost use Rattle.seq_machine.specs.Rows.{IsRow};
 ghost use Rattle.seq_machine.specs.Here.{here, among};
 
 use seq_layout::Layout;
 use seq_memory::Memories;
-use seq_recover::{
-    Claimed, Closing, Copying, Locks, Recovered, Recovery, Step, claim_turn, close_turn, copy_turn,
-    lock_turn, start,
-};
+use seq_recover::{Claimed, Closing, Copying, Locks, Recovered, Recovery, Step};
 use seq_ruling::{is_deserted, ruling};
 use seq_status::{Holder, Status};
 use seq_turns::{Hand, RecoveryAt};
@@ -108,8 +106,8 @@ pub fn begin(
     ensures matches { Matches layout.now memories.new }
 {
     let forward = goes_forward(&ruling(pid, memories, layout));
-    let recovery = start(pid, Holder { pe, incarnation }, forward);
-    after_claimed(claim_turn(recovery, memories, layout, desc))
+    let recovery = Recovery::start(pid, Holder { pe, incarnation }, forward);
+    after_claimed(recovery.turn(memories, layout, desc))
 }
 
 /// A turn of a recovery that has begun.
@@ -127,15 +125,9 @@ pub fn recovering(
     ensures matches { Matches layout.now memories.new }
 {
     match recovery {
-        RecoveryAt::Claimed(recovery) => {
-            after_claimed(claim_turn(recovery, memories, layout, desc))
-        }
-        RecoveryAt::Copying(recovery) => {
-            after_copying(copy_turn(recovery, memories, layout, desc))
-        }
-        RecoveryAt::Locks(recovery) => after_locks(lock_turn(recovery, memories, layout, desc)),
-        RecoveryAt::Closing(recovery) => {
-            after_closing(close_turn(recovery, memories, layout, desc))
-        }
+        RecoveryAt::Claimed(recovery) => after_claimed(recovery.turn(memories, layout, desc)),
+        RecoveryAt::Copying(recovery) => after_copying(recovery.turn(memories, layout, desc)),
+        RecoveryAt::Locks(recovery) => after_locks(recovery.turn(memories, layout, desc)),
+        RecoveryAt::Closing(recovery) => after_closing(recovery.turn(memories, layout, desc)),
     }
 }

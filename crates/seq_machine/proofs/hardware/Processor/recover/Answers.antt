@@ -1,6 +1,6 @@
 use Rattle.std.proofs.Common.{◌≡◌, sym, ap, ◌∙◌}
 use Rattle.seq_layout.specs.Copies.{copies}
-use Rattle.seq_turns.specs.declared.recovery.RecoveryAt.{RecoveryAt}
+use Rattle.seq_turns.specs.declared.hand.RecoveryAt.{RecoveryAt}
 use Rattle.seq_turns.specs.Machines.{copies_after}
 use Rattle.seq_turns.specs.Recoveries.{recovery_move}
 use Rattle.seq_machine.specs.Here.{here}

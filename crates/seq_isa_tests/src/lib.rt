@@ -1,0 +1,5 @@
+//! Words from outside, decoded and encoded.
+#![tactic(auto)]
+
+#[cfg(test)]
+mod tests;

@@ -1,0 +1,7 @@
+-- The machine is ready for the next event, unless its run has ended.
+use Rattle.std.proofs.Common.{◌≡◌, false}
+use Rattle.seq_machine.specs.Ready.{IsReady}
+use Rattle.seq_machine_tests.proofs.tests.play.Given as goal
+
+abbrev pub invariant-loop-row : goal.invariant-loop-row
+invariant-loop-row g l = l.stage.ended ≡ false → IsReady l.stage.made l.stage.hardware
