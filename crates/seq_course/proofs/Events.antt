@@ -4,8 +4,6 @@ use Rattle.std.proofs.lemmas.List.{length-map}
 use Rattle.seq_words.specs.declared.description.MachineDesc.{MachineDesc}
 use Rattle.seq_words.specs.declared.events.Entry.{Entry}
 use Rattle.seq_words.specs.declared.events.Event.{Event}
-use Rattle.seq_words.specs.declared.kinds.Blocker.{Blocker}
-use Rattle.seq_words.specs.declared.kinds.Element.{Element}
 use Rattle.seq_shelf.specs.Causes.{Rose}
 use Rattle.seq_shelf.specs.Told.{Grows, LineView, ChronicleView}
 use Rattle.seq_shelf.specs.Rows.{AllAccept}
@@ -27,11 +25,12 @@ use Rattle.seq_machine.specs.Built.{IsBuilt}
 use Rattle.seq_machine.specs.Making.{IsReadyFor}
 use Rattle.seq_machine.specs.Serving.{StopsAt}
 use Rattle.seq_machine.specs.Happening.{sent_in, entries_in, StopsFor, CountsStay, ChronicleStops}
-use Rattle.seq_machine.specs.Checking.{EndsFor}
+use Rattle.seq_machine.specs.Checking.{machine_left, EndsFor}
 use Rattle.seq_machine.proofs.Readiness.{numbers_fit, goes_on}
 use Rattle.seq_machine.proofs.Unchanged.{allowed_anywhere}
+use Rattle.seq_retell.specs.Keeping.{Keeping}
 use Rattle.seq_course.specs.Course.{machine_after}
-use Rattle.seq_course.specs.Made.{Released, up_to}
+use Rattle.seq_course.specs.Made.{up_to, AreFirst}
 use Rattle.seq_course.specs.Making.{Scene, scene, LedTo, MayCome, Makes, HaltsAt, Breaks}
 use Rattle.seq_course.proofs.Runs.{run-append, unchecked-append}
 use Rattle.seq_course.proofs.Told.{IsTold, is_told, TellsNothing, stops_tell_nothing}
@@ -65,7 +64,7 @@ counts_since begun before after one two = record {
   refusals = (let le = one.refusals in let more = two.refusals in omega (arith, le, more));
 }
 
-module _ (e : Event) (old new : Hardware) (before after : ChronicleView) (lines new_lines : List LineView) (marks new_marks : List Bool) (n : Note) (may : MayCome (e ∷ []) (scene old before lines marks)) where
+module _ (e : Event) (old new : Hardware) (before after : ChronicleView) (lines new_lines : List LineView) (marks new_marks : List Bool) (kept new_kept : Keeping) (n : Note) (may : MayCome (e ∷ []) (scene old before lines marks kept)) where
   module _ (desc : new.desc ≡ old.desc)
       (machine : (o : Outside) → IsOutside lines marks o → machine_of new (outside_of (happens old.desc (machine_of old o) e)) ≡ happens old.desc (machine_of old o) e)
       (unchecked : (o : Outside) → IsOutside lines marks o → check old.desc (machine_of old o) e ≡ None)
@@ -73,8 +72,9 @@ module _ (e : Event) (old new : Hardware) (before after : ChronicleView) (lines 
       (sent : AllAccept lines new_lines (sent_in n))
       (entries : Grows before.told after.told (entries_in n))
       (counts : CountsStay before after)
-      (outside : (o : Outside) → IsOutside lines marks o → IsOutside new_lines new_marks (outside_of (happens old.desc (machine_of old o) e))) where
-    module _ (begun : Scene) (es : List Event) (led : LedTo old.desc begun es (scene old before lines marks)) where
+      (outside : (o : Outside) → IsOutside lines marks o → IsOutside new_lines new_marks (outside_of (happens old.desc (machine_of old o) e)))
+      (first : (history : List Entry) → AreFirst kept history → AreFirst new_kept (history ++ entries_in n)) where
+    module _ (begun : Scene) (es : List Event) (led : LedTo old.desc begun es (scene old before lines marks kept)) where
       abbrev m : Machine
       m = machine_after old.desc es
 
@@ -102,7 +102,7 @@ module _ (e : Event) (old new : Hardware) (before after : ChronicleView) (lines 
       sent_is : (l : ℕ) → next.sent l ≡ m.sent l ++ sent_in n l
       sent_is l = ap (λ (x : Machine). x.sent l) (sym is_next) ∙ told.sent l ∙ ap (λ (x : Note). m.sent l ++ sent_in x l) is_note
 
-      led_next : LedTo old.desc begun (es ++ e ∷ []) (scene new after new_lines new_marks)
+      led_next : LedTo old.desc begun (es ++ e ∷ []) (scene new after new_lines new_marks new_kept)
       led_next = record {
         unchecked = unchecked-append old.desc es (e ∷ []) (machine_at_start old.desc) led.unchecked (subst (λ (x : Machine). check old.desc x e ≡ None) led.machine.machine (unchecked o led.machine.shown), tt);
         machine = record {
@@ -115,22 +115,23 @@ module _ (e : Event) (old new : Hardware) (before after : ChronicleView) (lines 
           bytes = all_more begun.lines lines new_lines m.sent (sent_in n) next.sent led.released.bytes sent sent_is;
         };
         counts = counts_since begun.chronicle before after led.counts counts;
+        kept = subst (λ (xs : List Entry). AreFirst new_kept xs) history_is (first m.history led.kept);
       }
 
-    module _ (hung : new_marks ≡ marks) (hardware : IsHardware new) (fit : Fit new.desc (machine_of new no_outside)) where
+    module _ (hung : new_marks ≡ marks) (room : new_kept.room ≡ kept.room) (hardware : IsHardware new) (fit : Fit new.desc (machine_of new no_outside)) where
       ready : (k : ℕ) → IsReadyFor (1 + k) old → IsReadyFor k new
       ready k is = record {
         number = suc is.number;
-        ready = goes_on is.number old new e lines marks is.ready (built_next e (scene old before lines marks) may) (allowed_next e (scene old before lines marks) may) hardware desc fit machine;
+        ready = goes_on is.number old new e lines marks is.ready (built_next e (scene old before lines marks kept) may) (allowed_next e (scene old before lines marks kept) may) hardware desc fit machine;
         room = (let room = is.room in omega (arith, room));
       }
 
-      pub event_made : Makes (e ∷ []) (scene old before lines marks) (scene new after new_lines new_marks)
+      pub event_made : Makes (e ∷ []) (scene old before lines marks kept) (scene new after new_lines new_marks new_kept)
       event_made = record {
         led = λ d begun es led.
-            let P : MachineDesc → Type 0 = λ x. LedTo x begun es (scene old before lines marks) → LedTo x begun (es ++ e ∷ []) (scene new after new_lines new_marks) in
+            let P : MachineDesc → Type 0 = λ x. LedTo x begun es (scene old before lines marks kept) → LedTo x begun (es ++ e ∷ []) (scene new after new_lines new_marks new_kept) in
             subst P led.machine.described (led_next begun es) led;
-        keeps = record { ready = ready; desc = desc; hung = hung; number = sent.number };
+        keeps = record { ready = ready; stays = record { desc = desc; hung = hung; room = room }; number = sent.number };
       }
 
 -- ---- an event that ends the run
@@ -158,63 +159,77 @@ ends_since : (d : MachineDesc) (m : Machine) (e : Event) (first old new : List L
 ends_since d m e first old new bytes begun before after s all counts (inl checked) = inl checked
 ends_since d m e first old new bytes begun before after s all counts (inr stops) = inr (stops_since (note d m e) first old new bytes begun before after s all counts stops)
 
--- what was released before the event is released up to it: a machine check commits nothing and sends nothing
-module _ (d : MachineDesc) (es : List Event) (e : Event) (before after : Option (List Entry)) (old new : List LineView) (first last : List LineView) (begun end : ChronicleView) (released : Released d es before after old new) where
+module _ (d : MachineDesc) (es : List Event) (e : Event) where
   abbrev at : Machine
   at = machine_after d es
 
-  with_check : (x : Element) (b : Blocker) → EndsFor d at e first last begun end (stop.Check x b) → Released d (es ++ e ∷ []) before after old new
-  with_check x b (inl checked) =
-      let none : TellsNothing at (happens d at e) = stops_tell_nothing d at x e checked.0 in
-      let here : Released d es before after old new = released in
-      let is_next : happens d at e ≡ machine_after d (es ++ e ∷ []) = sym (run-append d es (e ∷ []) (machine_at_start d)) in
-      record {
-        history = subst (λ (xs : List Entry). Grows before after xs) (sym none.history ∙ ap (λ (m : Machine). m.history) is_next) here.history;
-        bytes = subst (λ (f : ℕ → List ℕ). AllAccept old new f) (sym none.sent ∙ ap (λ (m : Machine). m.sent) is_next) here.bytes;
-      }
-  with_check x b (inr (inl stops)) = absurd stops.stops
-  with_check x b (inr (inr stops)) = absurd stops.stops
+  is_next_at : happens d at e ≡ machine_after d (es ++ e ∷ [])
+  is_next_at = sym (run-append d es (e ∷ []) (machine_at_start d))
 
-  released_up_to : (s : Stop) → EndsFor d at e first last begun end s → Released d (up_to es e s) before after old new
-  released_up_to (stop.Check x b) ends = with_check x b ends
-  released_up_to (stop.Line l) ends = released
-  released_up_to stop.Chronicle ends = released
-  released_up_to stop.NoMemory ends = released
+  -- what the event leaves is the machine after the events up to it
+  left_is : (s : Stop) → machine_left d at e s ≡ machine_after d (up_to es e s)
+  left_is (stop.Check x b) = is_next_at
+  left_is (stop.Line l) = refl
+  left_is stop.Chronicle = refl
+  left_is stop.NoMemory = refl
 
-module _ (e : Event) (old new : Hardware) (before after : ChronicleView) (lines new_lines : List LineView) (marks new_marks : List Bool) (s : Stop)
+  -- a machine check commits nothing, sends nothing and leaves the ports as they are
+  pub tells_up_to : (old new : List LineView) (before after : ChronicleView) (s : Stop) → EndsFor d at e old new before after s → TellsNothing at (machine_after d (up_to es e s))
+  tells_up_to old new before after (stop.Check x b) (inl checked) = subst (λ (m : Machine). TellsNothing at m) is_next_at (stops_tell_nothing d at x e checked.0)
+  tells_up_to old new before after (stop.Check x b) (inr (inl stops)) = absurd stops.stops
+  tells_up_to old new before after (stop.Check x b) (inr (inr stops)) = absurd stops.stops
+  tells_up_to old new before after (stop.Line l) ends = record { history = refl; sent = refl; ports = refl }
+  tells_up_to old new before after stop.Chronicle ends = record { history = refl; sent = refl; ports = refl }
+  tells_up_to old new before after stop.NoMemory ends = record { history = refl; sent = refl; ports = refl }
+
+module _ (e : Event) (old new : Hardware) (before after : ChronicleView) (lines new_lines : List LineView) (marks new_marks : List Bool) (kept : Keeping) (s : Stop)
     (none : AllAccept lines new_lines (λ l. [])) (told : after.told ≡ before.told)
-    (cause : (o : Outside) → IsOutside lines marks o → EndsFor old.desc (machine_of old o) e lines new_lines before after s) where
-  module _ (begun : Scene) (es : List Event) (led : LedTo old.desc begun es (scene old before lines marks)) where
+    (cause : (o : Outside) → IsOutside lines marks o → EndsFor old.desc (machine_of old o) e lines new_lines before after s)
+    (stopped : (o : Outside) → IsOutside lines marks o → machine_of new (outside_of (machine_left old.desc (machine_of old o) e s)) ≡ machine_left old.desc (machine_of old o) e s)
+    (hardware : IsHardware new) (desc : new.desc ≡ old.desc) where
+  module _ (begun : Scene) (es : List Event) (led : LedTo old.desc begun es (scene old before lines marks kept)) where
     abbrev at_stop : Machine
     at_stop = machine_after old.desc es
+
+    abbrev up_to_it : List Event
+    up_to_it = up_to es e s
 
     ends : EndsFor old.desc at_stop e begun.lines new_lines begun.chronicle after s
     ends = ends_since old.desc at_stop e begun.lines lines new_lines at_stop.sent begun.chronicle before after s led.released.bytes led.counts
         (subst (λ (x : Machine). EndsFor old.desc x e lines new_lines before after s) led.machine.machine (cause (outside_of at_stop) led.machine.shown))
 
-    before_it : Released old.desc es begun.chronicle.told after.told begun.lines new_lines
-    before_it = record {
-      history = subst (λ (x : Option (List Entry)). Grows begun.chronicle.told x at_stop.history) (sym told) led.released.history;
-      bytes = all_more begun.lines lines new_lines at_stop.sent (λ l. []) at_stop.sent led.released.bytes none (λ l. sym (append-nil (at_stop.sent l)));
-    }
+    same : TellsNothing at_stop (machine_after old.desc up_to_it)
+    same = tells_up_to old.desc es e begun.lines new_lines begun.chronicle after s ends
 
-    halts_here : HaltsAt old.desc begun es e (scene new after new_lines new_marks) s
+    left : machine_left old.desc (machine_of old (outside_of at_stop)) e s ≡ machine_after old.desc up_to_it
+    left = ap (λ (x : Machine). machine_left old.desc x e s) led.machine.machine ∙ left_is old.desc es e s
+
+    halts_here : HaltsAt old.desc begun es e (scene new after new_lines new_marks kept) s
     halts_here = record {
       unchecked = led.unchecked;
       ends = ends;
-      released = released_up_to old.desc es e begun.chronicle.told after.told begun.lines new_lines begun.lines new_lines begun.chronicle after before_it s ends;
+      released = record {
+        history = subst (λ (xs : List Entry). Grows begun.chronicle.told after.told xs) (sym same.history) (subst (λ (x : Option (List Entry)). Grows begun.chronicle.told x at_stop.history) (sym told) led.released.history);
+        bytes = subst (λ (f : ℕ → List ℕ). AllAccept begun.lines new_lines f) (sym same.sent) (all_more begun.lines lines new_lines at_stop.sent (λ l. []) at_stop.sent led.released.bytes none (λ l. sym (append-nil (at_stop.sent l))));
+      };
+      kept = subst (λ (xs : List Entry). AreFirst kept xs) (sym same.history) led.kept;
+      after = record {
+        hardware = hardware;
+        described = desc;
+        machine = subst (λ (x : Machine). machine_of new (outside_of x) ≡ x) left (stopped (outside_of at_stop) led.machine.shown);
+      };
     }
 
-  pub event_breaks : new_marks ≡ marks → Breaks (e ∷ []) (scene old before lines marks) (scene new after new_lines new_marks) s
+  pub event_breaks : new_marks ≡ marks → Breaks (e ∷ []) (scene old before lines marks kept) (scene new after new_lines new_marks kept) s
   event_breaks hung = record {
     halts = λ d begun es led.
-        let P : MachineDesc → Type 0 = λ x. LedTo x begun es (scene old before lines marks) → HaltsAt x begun es e (scene new after new_lines new_marks) s in
+        let P : MachineDesc → Type 0 = λ x. LedTo x begun es (scene old before lines marks kept) → HaltsAt x begun es e (scene new after new_lines new_marks kept) s in
         record {
           part = [];
           event = e;
           rest = [];
           parts = refl;
-          halts = subst (λ (xs : List Event). HaltsAt d begun xs e (scene new after new_lines new_marks) s) (sym (append-nil es)) (subst P led.machine.described (halts_here begun es) led);
+          halts = subst (λ (xs : List Event). HaltsAt d begun xs e (scene new after new_lines new_marks kept) s) (sym (append-nil es)) (subst P led.machine.described (halts_here begun es) led);
         };
-    hung = hung;
+    stays = record { desc = desc; hung = hung; room = refl };
   }

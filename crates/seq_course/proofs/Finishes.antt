@@ -79,8 +79,7 @@ module _ (n : ℕ) (a : Scene) (round : List Event) (is : round ≡ round_of a.h
             (let fewer = fewer_times k n round le in
             let all = ap length (finish_events a.hardware.desc n ∙ ap (λ (xs : List Event). times n xs) (sym is)) in
             omega (arith, fewer, all)) ready);
-        desc = makes.keeps.desc;
-        hung = makes.keeps.hung;
+        stays = makes.keeps.stays;
         number = makes.keeps.number;
       };
     }
@@ -94,5 +93,5 @@ module _ (n : ℕ) (a : Scene) (round : List Event) (is : round ≡ round_of a.h
             made = record { most = omega (arith, lt); unsettled = unsettled_more says d begun es led };
             among = subst (λ (xs : List Event). HaltsAmong d begun es xs c stop) (sym (times_more k round) ∙ rounds_are d begun es led (k + 1)) (all.halts d begun es led);
           };
-          hung = all.hung;
+          stays = all.stays;
         }

@@ -13,16 +13,18 @@ use Rattle.seq_schedule.specs.Faultless.{AreFaultless}
 use Rattle.seq_machine.specs.declared.hardware.Stop.{Stop}
 use Rattle.seq_machine.specs.Making.{IsReadyFor}
 use Rattle.seq_machine.specs.Starting.{machine_at_start}
-use Rattle.seq_course.specs.Course.{machine_after, made_by, Passes}
+use Rattle.seq_course.specs.Course.{machine_after, made_by, Passes, EndsAt, ComesTo}
 use Rattle.seq_course.specs.Room.{most_of}
-use Rattle.seq_course.specs.Made.{up_to, Takes}
-use Rattle.seq_course.specs.Making.{Scene, LedTo, MayCome, all_of, MakesScript, BreaksScript, MayBegin}
+use Rattle.seq_course.specs.Made.{up_to, TakesTelling}
+use Rattle.seq_course.specs.Making.{Scene, LedTo, MayCome, Stays, all_of, MakesScript, BreaksScript, MayBegin}
 use Rattle.seq_course.specs.declared.ending.Ending.TheVariants.{Done, OutOfTurns, Stopped}
-use Rattle.seq_course.proofs.Scenes.{ready_less}
+use Rattle.seq_course.proofs.Scenes.{ready_less, stays_here, stays_on}
 use Rattle.seq_course.proofs.Runs.{unchecked_rest}
 use Rattle.seq_course.proofs.Lists.{next_at, split_at}
 use Rattle.seq_course.proofs.Scripting.{all_may, all_few}
 use Rattle.seq_course.proofs.Allowed.{next_may_make, next_is_few, passes_on}
+use Rattle.seq_course.proofs.Going.{all_go_well, end_goes_well, is_next}
+use Rattle.seq_course.proofs.Showing.{led_tells, halted_tells}
 
 -- so much room these items take at most
 abbrev pub room_of : MachineDesc → List Item → ℕ
@@ -35,11 +37,11 @@ pub record ItemsMade (d : MachineDesc) (items : List Item) (i : ℕ) (begun now 
   pub led : LedTo d begun events now
   pub ready : IsReadyFor (room_of d (drop i items)) now.hardware
   pub lines : line_count d ≤ length now.lines
-  pub hung : now.marks ≡ begun.marks
+  pub stays : Stays begun now
 
 pub none_made : (items : List Item) (a : Scene) → MayBegin items a → ItemsMade a.hardware.desc items 0 a a
 unfolding Passes
-none_made items a may = record { events = []; passes = refl; led = may.led; ready = may.ready; lines = may.lines; hung = refl }
+none_made items a may = record { events = []; passes = refl; led = may.led; ready = may.ready; lines = may.lines; stays = stays_here a }
 
 pub as_said : (s : Script) (x y : Bool) (a b : Scene) → x ≡ y → MakesScript s x a b → MakesScript s y a b
 as_said s x y a b e makes = subst (λ (on : Bool). MakesScript s on a b) e makes
@@ -77,81 +79,87 @@ module _ (d : MachineDesc) (described : IsDescription d) (items : List Item) (fa
 
   -- it is made, and the next one follows
   module _ (new : Scene) where
-    pub item_made : MakesScript item.script true now new → ItemsMade d items (i + 1) begun new
-    item_made makes =
-        let on = makes.made d begun made.events made.led in
+    ready_then : (on : Bool) → MakesScript item.script on now new → IsReadyFor (room_of d (drop (i + 1) items)) new.hardware
+    ready_then on makes =
         let fits : length (all_of now.hardware.desc item.script) + room_of d (drop (i + 1) items) ≤ room_of d (drop i items) =
         (let same = ap (λ (x : MachineDesc). length (all_of x item.script)) desc_is in omega (arith, few, room_left, same))
         in
+        makes.keeps.ready (room_of d (drop (i + 1) items)) (ready_less (room_of d (drop i items)) (length (all_of now.hardware.desc item.script) + room_of d (drop (i + 1) items)) now.hardware fits made.ready)
+
+    pub item_made : MakesScript item.script true now new → ItemsMade d items (i + 1) begun new
+    item_made makes =
+        let on = makes.made d begun made.events made.led in
         record {
           events = made.events ++ made_by d item.script on.rounds;
           passes = subst (λ (l : List Item). Passes d [] l (made.events ++ made_by d item.script on.rounds)) (sym (next_at items i item item inside is))
               (passes_on d (take i items) item made.events (made.events ++ made_by d item.script on.rounds) made.passes (record { rounds = on.rounds; made = on.made; after_is = refl; unchecked = unchecked_rest d made.events (made_by d item.script on.rounds) (machine_at_start d) on.led.unchecked; goes_on = on.ends }));
           led = on.led;
-          ready = makes.keeps.ready (room_of d (drop (i + 1) items)) (ready_less (room_of d (drop i items)) (length (all_of now.hardware.desc item.script) + room_of d (drop (i + 1) items)) now.hardware fits made.ready);
+          ready = ready_then true makes;
           lines = (let lines = made.lines in let number = makes.keeps.number in omega (arith, lines, number));
-          hung = makes.keeps.hung ∙ made.hung;
+          stays = stays_on begun now new made.stays makes.keeps.stays;
         }
 
     -- it runs out of turns
-    pub out_of_turns : MakesScript item.script false now new → Takes d items (OutOfTurns item.line) begun.chronicle new.chronicle begun.lines new.lines
+    pub out_of_turns : MakesScript item.script false now new → TakesTelling d items (OutOfTurns item.line) begun.chronicle new.chronicle begun.lines new.lines new.hardware new.kept
     out_of_turns makes =
         let off = makes.made d begun made.events made.led in
+        let events : List Event = made.events ++ made_by d item.script off.rounds in
+        let ends : EndsAt d items item.line events = record {
+          front = take i items;
+          item = item;
+          back = drop (i + 1) items;
+          split = split;
+          line_is = refl;
+          before = made.events;
+          passes = made.passes;
+          rounds = off.rounds;
+          made = off.made;
+          after_is = refl;
+          unchecked = unchecked_rest d made.events (made_by d item.script off.rounds) (machine_at_start d) off.led.unchecked;
+          runs_out = off.ends;
+        } in
         record {
-          events = made.events ++ made_by d item.script off.rounds;
-          ends = record {
-            front = take i items;
-            item = item;
-            back = drop (i + 1) items;
-            split = split;
-            line_is = refl;
-            before = made.events;
-            passes = made.passes;
-            rounds = off.rounds;
-            made = off.made;
-            after_is = refl;
-            unchecked = unchecked_rest d made.events (made_by d item.script off.rounds) (machine_at_start d) off.led.unchecked;
-            runs_out = off.ends;
-          };
-          released = off.led.released;
+          takes = record { events = events; ends = ends; released = off.led.released };
+          tells = led_tells d described begun new events (end_goes_well d described items faultless item.line events ends) off.led (ready_then false makes).ready.hardware;
         }
 
     -- one of its events ends the run
-    pub stopped_at : (stop : Stop) → BreaksScript item.script now new stop → Takes d items (Stopped item.line stop) begun.chronicle new.chronicle begun.lines new.lines
+    pub stopped_at : (stop : Stop) → BreaksScript item.script now new stop → TakesTelling d items (Stopped item.line stop) begun.chronicle new.chronicle begun.lines new.lines new.hardware new.kept
     stopped_at stop breaks =
         let in_script = breaks.halts d begun made.events made.led in
         let among = in_script.among in
+        let before : List Event = made.events ++ among.part in
+        let comes : ComesTo d items item.line before among.event = record {
+          front = take i items;
+          item = item;
+          back = drop (i + 1) items;
+          split = split;
+          line_is = refl;
+          before = made.events;
+          passes = made.passes;
+          rounds = in_script.rounds;
+          made = in_script.made;
+          part = among.part;
+          rest = among.rest;
+          parts = among.parts;
+          after_is = refl;
+          unchecked = unchecked_rest d made.events among.part (machine_at_start d) among.halts.unchecked;
+        } in
         record {
-          events = up_to (made.events ++ among.part) among.event stop;
-          ends = record {
-            made = made.events ++ among.part;
-            event = among.event;
-            comes = record {
-              front = take i items;
-              item = item;
-              back = drop (i + 1) items;
-              split = split;
-              line_is = refl;
-              before = made.events;
-              passes = made.passes;
-              rounds = in_script.rounds;
-              made = in_script.made;
-              part = among.part;
-              rest = among.rest;
-              parts = among.parts;
-              after_is = refl;
-              unchecked = unchecked_rest d made.events among.part (machine_at_start d) among.halts.unchecked;
-            };
-            ends = among.halts.ends;
-            events_are = refl;
+          takes = record {
+            events = up_to before among.event stop;
+            ends = record { made = before; event = among.event; comes = comes; ends = among.halts.ends; events_are = refl };
+            released = among.halts.released;
           };
-          released = among.halts.released;
+          tells = halted_tells d described begun new before among.event stop (is_next d described items faultless item.line before among.event comes).well among.halts;
         }
 
 -- all are made
-pub all_made : (d : MachineDesc) (items : List Item) (i : ℕ) (begun now : Scene) → length items ≤ i → ItemsMade d items i begun now → Takes d items Done begun.chronicle now.chronicle begun.lines now.lines
-all_made d items i begun now past made = record {
-  events = made.events;
-  ends = subst (λ (l : List Item). Passes d [] l made.events) (take_all i items past) made.passes;
-  released = made.led.released;
-}
+pub all_made : (d : MachineDesc) (described : IsDescription d) (items : List Item) (faultless : AreFaultless d items) (i : ℕ) (begun now : Scene)
+    → length items ≤ i → ItemsMade d items i begun now → TakesTelling d items Done begun.chronicle now.chronicle begun.lines now.lines now.hardware now.kept
+all_made d described items faultless i begun now past made =
+    let passes : Passes d [] items made.events = subst (λ (l : List Item). Passes d [] l made.events) (take_all i items past) made.passes in
+    record {
+      takes = record { events = made.events; ends = passes; released = made.led.released };
+      tells = led_tells d described begun now made.events (all_go_well d described items faultless made.events passes) made.led made.ready.ready.hardware;
+    }

@@ -9,10 +9,12 @@ pub mod Scripts
 pub mod Passing
 pub mod Rooms
 pub mod Allowed
+pub mod Going
 pub mod Right
 pub mod Scenes
 pub mod Told
 pub mod Events
+pub mod Showing
 pub mod Lists
 pub mod Rounds
 pub mod Scripting

@@ -14,17 +14,23 @@ use Rattle.seq_machine.specs.Making.{MayMake, IsReadyFor}
 use Rattle.seq_machine.specs.Starting.{machine_at_start}
 use Rattle.seq_course.specs.Course.{machine_after}
 use Rattle.seq_course.proofs.Runs.{run-append, may_begin, may_follow, unchecked_rest}
-use Rattle.seq_course.specs.Making.{Scene, LedTo, MayCome, Makes, HaltsAt, Breaks, BreaksScript}
+use Rattle.seq_course.specs.Making.{Scene, LedTo, MayCome, Stays, Makes, HaltsAt, Breaks, BreaksScript}
 
 -- room for more is room for less
 pub ready_less : (n k : ℕ) (h : Hardware) → k ≤ n → IsReadyFor n h → IsReadyFor k h
 ready_less n k h le ready = record { number = ready.number; ready = ready.ready; room = (let room = ready.room in omega (arith, le, room)) }
 
 -- ---- parts
+pub stays_here : (a : Scene) → Stays a a
+stays_here a = record { desc = refl; hung = refl; room = refl }
+
+pub stays_on : (a b c : Scene) → Stays a b → Stays b c → Stays a c
+stays_on a b c one two = record { desc = two.desc ∙ one.desc; hung = two.hung ∙ one.hung; room = two.room ∙ one.room }
+
 pub makes_none : (a : Scene) → Makes [] a a
 makes_none a = record {
   led = λ d begun es l. subst (λ (xs : List Event). LedTo d begun xs a) (sym (append-nil es)) l;
-  keeps = record { ready = λ n ready. ready_less (0 + n) n a.hardware (omega arith) ready; desc = refl; hung = refl; number = refl };
+  keeps = record { ready = λ n ready. ready_less (0 + n) n a.hardware (omega arith) ready; stays = stays_here a; number = refl };
 }
 
 pub makes_more : (xs ys : List Event) (a b c : Scene) → Makes xs a b → Makes ys b c → Makes (xs ++ ys) a c
@@ -32,8 +38,7 @@ makes_more xs ys a b c one two = record {
   led = λ d begun es l. subst (λ (zs : List Event). LedTo d begun zs c) (append_assoc es xs ys) (two.led d begun (es ++ xs) (one.led d begun es l));
   keeps = record {
     ready = λ n ready. two.keeps.ready n (one.keeps.ready (length ys + n) (ready_less (length (xs ++ ys) + n) (length xs + (length ys + n)) a.hardware (omega (arith, length-append xs ys)) ready));
-    desc = two.keeps.desc ∙ one.keeps.desc;
-    hung = two.keeps.hung ∙ one.keeps.hung;
+    stays = stays_on a b c one.keeps.stays two.keeps.stays;
     number = two.keeps.number ∙ one.keeps.number;
   };
 }
@@ -52,7 +57,7 @@ may_first xs ys a may = record {
 pub may_rest : (xs ys : List Event) (a b : Scene) → MayCome (xs ++ ys) a → Makes xs a b → MayCome ys b
 may_rest xs ys a b may one = record {
   ready = one.keeps.ready (length ys) (ready_less (length (xs ++ ys)) (length xs + length ys) a.hardware (omega (arith, length-append xs ys)) may.ready);
-  lines = (let lines = may.lines in let counts = ap (λ (d : MachineDesc). line_count d) one.keeps.desc in let number = one.keeps.number in omega (arith, lines, counts, number));
+  lines = (let lines = may.lines in let counts = ap (λ (d : MachineDesc). line_count d) one.keeps.stays.desc in let number = one.keeps.number in omega (arith, lines, counts, number));
   desc = may.desc;
   begun = may.begun;
   made = may.made ++ xs;
@@ -67,7 +72,7 @@ breaks_first xs ys a b stop broken = record {
   halts = λ d begun es l.
       let h = broken.halts d begun es l in
       record { part = h.part; event = h.event; rest = h.rest ++ ys; parts = ap (λ (zs : List Event). zs ++ ys) h.parts ∙ append_assoc h.part (h.event ∷ h.rest) ys; halts = h.halts };
-  hung = broken.hung;
+  stays = broken.stays;
 }
 
 pub breaks_later : (xs ys : List Event) (a b c : Scene) (stop : Stop) → Makes xs a b → Breaks ys b c stop → Breaks (xs ++ ys) a c stop
@@ -81,7 +86,7 @@ breaks_later xs ys a b c stop one broken = record {
         parts = ap (λ (zs : List Event). xs ++ zs) h.parts ∙ sym (append_assoc xs h.part (h.event ∷ h.rest));
         halts = subst (λ (zs : List Event). HaltsAt d begun zs h.event c stop) (append_assoc es xs h.part) h.halts;
       };
-  hung = broken.hung ∙ one.keeps.hung;
+  stays = stays_on a b c one.keeps.stays broken.stays;
 }
 
 -- ---- in the midst of a list: some events of it are made, and these are left

@@ -124,7 +124,7 @@ module _ (s : Script) (more : List Event) (a : Scene) (stands : StandsFor a.hard
             among = subst (λ (xs : List Event). HaltsAmong a.hardware.desc begun es xs b stop) (made_is 0) (breaks.halts a.hardware.desc begun es l);
           } in
           subst P led.machine.described here led;
-      hung = breaks.hung;
+      stays = breaks.stays;
     }
 
 -- ---- all that it may make may be made, if any number of rounds may

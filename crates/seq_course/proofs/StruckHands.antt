@@ -28,11 +28,11 @@ use Rattle.seq_turns.specs.declared.hand.FlushAt.{FlushAt}
 use Rattle.seq_turns.specs.declared.hand.FlushAt.TheVariants as flush
 use Rattle.seq_turns.specs.declared.hand.ReleaseAt.{ReleaseAt}
 use Rattle.seq_turns.specs.declared.hand.ReleaseAt.TheVariants as release
-use Rattle.seq_turns.specs.declared.recovery.RecoveryAt.{RecoveryAt}
-use Rattle.seq_turns.specs.declared.recovery.RecoveryAt.TheVariants as recovery
-use Rattle.seq_turns.specs.declared.recovery.Recovery.{Recovery}
-use Rattle.seq_turns.specs.declared.recovery.Claimed.{Claimed}
-use Rattle.seq_turns.specs.declared.recovery.Locks.{Locks}
+use Rattle.seq_turns.specs.declared.hand.RecoveryAt.{RecoveryAt}
+use Rattle.seq_turns.specs.declared.hand.RecoveryAt.TheVariants as recovery
+use Rattle.seq_recover.specs.declared.recovery.Recovery.{Recovery}
+use Rattle.seq_recover.specs.declared.recovery.Claimed.{Claimed}
+use Rattle.seq_recover.specs.declared.recovery.Locks.{Locks}
 use Rattle.seq_turns.specs.Machines.{Machine, Move, Turn}
 use Rattle.seq_turns.specs.Machines.Turn.{Moves, Looks, Copies_unit, Stops}
 use Rattle.seq_turns.specs.Functions.{lowest}
@@ -42,7 +42,8 @@ use Rattle.seq_ruling.proofs.Lowest.{is_lowest}
 use Rattle.seq_turns.specs.Reading.{lock_word, context_of, copied_memory, is_copied, ruling, goes_forward}
 use Rattle.seq_turns.specs.Causes.{released, after_releases, release_next, follows, agree, finds}
 use Rattle.seq_turns.specs.Operations.{taken_up, claims, acquires, unit_count, flush_move, less, unlock_move, leave_move}
-use Rattle.seq_turns.specs.Recoveries.{begins, claimed_move, locks_cleared, left_from, recovery_move}
+use Rattle.seq_recover.specs.Reading.{left_from}
+use Rattle.seq_turns.specs.Recoveries.{begins, claimed_move, locks_cleared, recovery_move}
 use Rattle.seq_turns.specs.Processors.{is_free, looks, deserted, seeks, after_step, runs, someone_amid, copies_or_waits, seeks_or_copies, runs_or_copies, turn}
 use Rattle.seq_course.specs.Troubles.{struck_in}
 

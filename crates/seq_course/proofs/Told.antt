@@ -123,28 +123,29 @@ module _ (h : Hardware) (o : Outside) where
   is_told (event.Upset p half reg mask) = record { history = sym (append-nil o.history); sent = λ k. sym (append-nil (o.sent k)) }
   is_told (event.Hangup l) = record { history = sym (append-nil o.history); sent = λ k. sym (append-nil (o.sent k)) }
 
--- ---- an event that stops an element commits nothing and sends nothing
+-- ---- an event that stops an element commits nothing and sends nothing, and leaves the ports as they are
 pub record TellsNothing (m made : Machine) : Type 0 where
   pub history : made.history ≡ m.history
   pub sent : made.sent ≡ m.sent
+  pub ports : made.port ≡ m.port
 
 module _ (d : MachineDesc) (m : Machine) (x : Element) where
   stop_tells : (p : Pe) (t : Turn) → (if stops t then Some (element.Processor p) else None) ≡ Some x → TellsNothing m (after_turn d m p.0 t)
   stop_tells p (Moves move) e = absurd (let c : ⊥ = cc in c)
   stop_tells p (Looks next move) e = absurd (let c : ⊥ = cc in c)
   stop_tells p (Copies_unit i) e = absurd (let c : ⊥ = cc in c)
-  stop_tells p Stops e = record { history = refl; sent = refl }
+  stop_tells p Stops e = record { history = refl; sent = refl; ports = refl }
 
   pub stops_tell_nothing : (e : Event) → stopping d m e ≡ Some x → TellsNothing m (happens d m e)
   stops_tell_nothing (event.Processor p) is = stop_tells p (turn d m p.0 (m.hand p.0)) is
   stops_tell_nothing (event.Io i) is = absurd (let c : ⊥ = cc in c)
-  stops_tell_nothing (event.Input l byte) is = record { history = refl; sent = refl }
-  stops_tell_nothing (event.Close l) is = record { history = refl; sent = refl }
-  stops_tell_nothing (event.Fail (element.Processor p)) is = cond_both (is_down (m.hand p.0)) m (stopped m p.0) (TellsNothing m) (λ _. record { history = refl; sent = refl }) (λ _. record { history = refl; sent = refl })
-  stops_tell_nothing (event.Fail (element.Memory i)) is = record { history = refl; sent = refl }
-  stops_tell_nothing (event.Fail (element.Io i)) is = record { history = refl; sent = refl }
-  stops_tell_nothing (event.Repair (element.Processor p)) is = record { history = refl; sent = refl }
-  stops_tell_nothing (event.Repair (element.Memory i)) is = record { history = refl; sent = refl }
-  stops_tell_nothing (event.Repair (element.Io i)) is = record { history = refl; sent = refl }
-  stops_tell_nothing (event.Upset p half reg mask) is = record { history = refl; sent = refl }
-  stops_tell_nothing (event.Hangup l) is = record { history = refl; sent = refl }
+  stops_tell_nothing (event.Input l byte) is = absurd (let c : ⊥ = cc in c)
+  stops_tell_nothing (event.Close l) is = absurd (let c : ⊥ = cc in c)
+  stops_tell_nothing (event.Fail (element.Processor p)) is = cond_both (is_down (m.hand p.0)) m (stopped m p.0) (TellsNothing m) (λ _. record { history = refl; sent = refl; ports = refl }) (λ _. record { history = refl; sent = refl; ports = refl })
+  stops_tell_nothing (event.Fail (element.Memory i)) is = record { history = refl; sent = refl; ports = refl }
+  stops_tell_nothing (event.Fail (element.Io i)) is = record { history = refl; sent = refl; ports = refl }
+  stops_tell_nothing (event.Repair (element.Processor p)) is = record { history = refl; sent = refl; ports = refl }
+  stops_tell_nothing (event.Repair (element.Memory i)) is = record { history = refl; sent = refl; ports = refl }
+  stops_tell_nothing (event.Repair (element.Io i)) is = record { history = refl; sent = refl; ports = refl }
+  stops_tell_nothing (event.Upset p half reg mask) is = record { history = refl; sent = refl; ports = refl }
+  stops_tell_nothing (event.Hangup l) is = record { history = refl; sent = refl; ports = refl }

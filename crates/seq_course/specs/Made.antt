@@ -1,16 +1,19 @@
 -- What a course has made of the hardware, the lines and the chronicle, and how it ended.
-use Rattle.std.specs.Prelude.{◌≡◌, ℕ, Bool, Option, List, [], ◌∷◌, ◌++◌}
+use Rattle.std.specs.Prelude.{◌≡◌, ℕ, Bool, Option, List, [], ◌∷◌, ◌++◌, take}
 use Rattle.seq_words.specs.declared.description.MachineDesc.{MachineDesc}
 use Rattle.seq_words.specs.declared.events.Entry.{Entry}
 use Rattle.seq_words.specs.declared.events.Event.{Event}
 use Rattle.seq_shelf.specs.Told.{Grows, LineView, ChronicleView}
 use Rattle.seq_shelf.specs.Rows.{AllAccept}
 use Rattle.seq_schedule.specs.declared.script.Item.{Item}
+use Rattle.seq_lines.specs.Arrivals.{arrived}
 use Rattle.seq_machine.specs.declared.hardware.Hardware.{Hardware}
 use Rattle.seq_machine.specs.declared.hardware.Stop.{Stop}
 use Rattle.seq_machine.specs.declared.hardware.Stop.TheVariants as stop
 use Rattle.seq_machine.specs.Plain.{machine_of, outside_of, IsOutside}
 use Rattle.seq_machine.specs.Checking.{EndsFor}
+use Rattle.seq_retell.specs.Keeping.{Keeping}
+use Rattle.seq_retell.specs.Shown.{inputs_shown}
 use Rattle.seq_course.specs.Course.{machine_after, Passes, EndsAt, ComesTo}
 use Rattle.seq_course.specs.declared.ending.Ending.{Ending}
 use Rattle.seq_course.specs.declared.ending.Ending.TheVariants.{Done, OutOfTurns, Stopped}
@@ -54,3 +57,17 @@ pub record Takes (d : MachineDesc) (items : List Item) (ending : Ending) (before
   pub events : List Event
   pub ends : EndsWith d items events before after old new ending
   pub released : Released d events before.told after.told old new
+
+-- the entries that are kept are the first of the history, as many as there is room for
+abbrev pub AreFirst : Keeping → List Entry → Type 0
+AreFirst kept history = kept.entries ≡ take kept.room history
+
+-- What is left for a report after these events: the first entries of the history, and at the ports just what arrived.
+pub record Tells (d : MachineDesc) (es : List Event) (h : Hardware) (kept : Keeping) : Type 0 where
+  pub entries : AreFirst kept (machine_after d es).history
+  pub inputs : inputs_shown h.ports ≡ arrived d es
+
+-- A course of these items, and what it leaves for a report.
+pub record TakesTelling (d : MachineDesc) (items : List Item) (ending : Ending) (before after : ChronicleView) (old new : List LineView) (h : Hardware) (kept : Keeping) : Type 0 where
+  pub takes : Takes d items ending before after old new
+  pub tells : Tells d takes.events h kept

@@ -21,9 +21,5 @@ pub use limits::{MOST_LINES, MOST_TIMES, MOST_TURNS};
 pub use lines::{Said, read_line};
 pub use outs::OutState;
 pub use reading::{parse, read};
+pub use rules::turns_in;
 pub use script::{Item, Script};
-
-#[cfg(test)]
-mod outs_tests;
-#[cfg(test)]
-mod tests;

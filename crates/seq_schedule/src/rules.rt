@@ -78,8 +78,8 @@ fn is_absent(desc: &MachineDesc, script: &Script) -> bool
     }
 }
 
-// How many turns a script makes, where a `finish` makes all its rounds.
-fn turns_in(desc: &MachineDesc, script: &Script) -> u64
+/// How many turns a script makes, where a `finish` makes all its rounds.
+pub fn turns_in(desc: &MachineDesc, script: &Script) -> u64
     ensures value { result ≡ turns_in desc.now script.now }
     ensures bound { result < 2 ^ 48 }
 {

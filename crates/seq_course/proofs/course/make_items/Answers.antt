@@ -1,5 +1,5 @@
 use Rattle.std.proofs.Common.{true, false, sym}
-use Rattle.seq_course.proofs.Items.{none_made, as_said, round_here, next_may, item_made, out_of_turns, stopped_at}
+use Rattle.seq_course.proofs.Items.{none_made, as_said, round_here, next_may, item_made, out_of_turns, stopped_at, all_made}
 use Rattle.seq_course.proofs.course.make_items.Goals as goal
 
 pub loop-item-init : goal.loop-item-init
@@ -23,3 +23,6 @@ returns-in-Ok-false-clause-takes g c =
 pub returns-in-Err-clause-takes : goal.returns-in-Err-clause-takes
 returns-in-Err-clause-takes g c =
     stopped_at c.args.hardware.now.desc c.requires.begins.ready.ready.hardware.described c.args.items.now c.requires.items c.loop-item.item-index c.item-item.result c.loop-item-test.true (sym c.item-item.is) _ _ c.loop-item.invariant _ c.in-Err.stop c.in-Err.ensures.err
+
+pub returns-clause-takes : goal.returns-clause-takes
+returns-clause-takes g c = all_made c.args.hardware.now.desc c.requires.begins.ready.ready.hardware.described c.args.items.now c.requires.items c.loop-item.item-index _ _ c.loop-item-test.false c.loop-item.invariant

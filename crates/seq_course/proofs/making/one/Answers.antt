@@ -22,10 +22,10 @@ event-requires-clause-lines g c = enough (λ z. (goal.Line-dyn g z).line z.1) c.
 
 pub returns-clause-ok : goal.returns-clause-ok
 returns-clause-ok g c =
-    let made = c.in_ok-event.ensures in
-    event_made c.args.event c.args.hardware.now c.event.new.self _ _ _ _ _ _ _ c.requires made.desc made.machine made.unchecked made.note made.sent made.entries made.counts made.outside made.hung made.hardware made.fit
+    let made = c.in_ok-note.ensures in
+    event_made c.args.event c.args.hardware.now c.event.new.self _ _ _ _ _ _ _ _ _ c.requires made.desc made.machine made.unchecked made.note made.sent made.entries made.counts made.outside c.keep_commit.ensures.first made.hung c.keep_commit.ensures.room made.hardware made.fit
 
-pub returns-in_err-event-clause-err : goal.returns-in_err-event-clause-err
-returns-in_err-event-clause-err g c =
-    let broken = c.in_err-event.ensures in
-    breaks_from _ _ _ _ _ c.from_residual.ensures.1 (event_breaks c.args.event c.args.hardware.now c.event.new.self _ _ _ _ _ _ _ broken.err_lines broken.err_entries broken.cause broken.hung)
+pub returns-in_err-note-clause-err : goal.returns-in_err-note-clause-err
+returns-in_err-note-clause-err g c =
+    let broken = c.in_err-note.ensures in
+    breaks_from _ _ _ _ _ c.from_residual.ensures.1 (event_breaks c.args.event c.args.hardware.now c.event.new.self _ _ _ _ _ _ _ _ broken.err_lines broken.err_entries broken.cause broken.stopped broken.hardware broken.desc broken.hung)
