@@ -26,10 +26,10 @@ use Rattle.seq_course.specs.Course.{machine_after, Passes, EndsAt, RunsOut}
 use Rattle.seq_course.specs.Made.{EndsRun, EndsWith, Takes}
 use Rattle.seq_course.specs.Done.{RightAfter, CoursesCheckUncovered, FinishesAreDone}
 use Rattle.seq_course.proofs.Right.{courses_are_right, ends_are_right, stops_are_right, finishes_are_done}
-use Rattle.seq_cli.specs.declared.status.Status.{Status}
-use Rattle.seq_cli.specs.declared.status.Status.TheVariants.{Done, Usage, MachineCheck, ShelfFault, ChronicleFault, LineFault}
+use Rattle.seq_report.specs.declared.status.Status.{Status}
+use Rattle.seq_report.specs.declared.status.Status.TheVariants.{Done, Usage, MachineCheck, ShelfFault, ChronicleFault, LineFault}
 use Rattle.seq_cli.specs.Files.{Opening, usage, ready}
-use Rattle.seq_cli.specs.Commands.{Command, form_of}
+use Rattle.seq_cli.specs.Commands.{Command}
 use Rattle.seq_cli.specs.Opening.{OpensForm, AsksRun}
 use Rattle.seq_cli.specs.Loads.{EndsLoading}
 use Rattle.seq_cli.proofs.Openings.{ends_more}
@@ -156,9 +156,9 @@ module _ (law : CoursesCheckUncovered) (d : MachineDesc) (items : List Item) (de
   completes (course.Stopped at stop.Chronicle) takes chronicle line = absurd (chronicle (chronicle_cause d (machine_after d takes.ends.made) takes.ends.event old new before after takes.ends.ends))
   completes (course.Stopped at stop.NoMemory) takes chronicle line = inr (inl refl)
 
-pub run_checks : CoursesCheckUncovered → (words : List (List ℕ)) (map : Option Map) (status : Status) (asks : RunFor words map) (ending : Ending) (before after : ChronicleView) (old new : List LineView) → status ≡ status_of ending → AreFaultless asks.desc asks.items → Takes asks.desc asks.items ending before after old new
-    → (line : ℕ) (x : Element) (b : Blocker) → status ≡ MachineCheck line x b → ChecksAsked words map line x b before after old new
-run_checks law words map status asks ending before after old new is faultless takes line x b e =
+pub run_checks : CoursesCheckUncovered → (form : Option Command) (map : Option Map) (status : Status) (asks : RunFor form map) (ending : Ending) (before after : ChronicleView) (old new : List LineView) → status ≡ status_of ending → AreFaultless asks.desc asks.items → Takes asks.desc asks.items ending before after old new
+    → (line : ℕ) (x : Element) (b : Blocker) → status ≡ MachineCheck line x b → ChecksAsked form map line x b before after old new
+run_checks law form map status asks ending before after old new is faultless takes line x b e =
     let here : Takes asks.desc asks.items (course.Stopped line (stop.Check x b)) before after old new = subst (λ (z : Ending). Takes asks.desc asks.items z before after old new) (check_ending ending line x b (sym is ∙ e)) takes in
     record { asks = asks; takes = here; uncovered = uncovered_events law asks.desc asks.items asks.described faultless before after old new here.events line x b here.ends }
 
@@ -175,12 +175,12 @@ run_completes law status d items ending before after old new described faultless
     (completes law d items described faultless before after old new ending takes chronicle line)))
 
 -- what was loaded is the run that is asked for
-abbrev pub run_for : (words : List (List ℕ)) (map : Option Map) (form : Option Command) (d : MachineDesc) (items : List Item) (files : List (List ℕ)) → form_of words ≡ form → ((m : Map) → map ≡ Some m → OpensForm m None form (ready d items files)) → IsDescription d → RunFor words map
-run_for words map form d items files is opens described = record {
+abbrev pub run_for : (form : Option Command) (map : Option Map) (d : MachineDesc) (items : List Item) (files : List (List ℕ)) → ((m : Map) → map ≡ Some m → OpensForm m None form (ready d items files)) → IsDescription d → RunFor form map
+run_for form map d items files opens described = record {
   desc = d;
   items = items;
   files = files;
-  asked = λ m told. subst (λ form. OpensForm m None form (ready d items files)) (sym is) (opens m told);
+  asked = opens;
   described = described;
 }
 
@@ -192,13 +192,13 @@ done_passes d items es course.Done before after old new e ends = ends
 done_passes d items es (course.OutOfTurns line) before after old new e ends = absurd cc
 done_passes d items es (course.Stopped line reason) before after old new e ends = absurd ((stopped_status line reason).0 e)
 
-right_after : (d : MachineDesc) (items : List Item) (es : List Event) (ending : Ending) (before after : ChronicleView) (old new : List LineView) → IsDescription d → AreFaultless d items → EndsWith d items es before after old new ending → RightAfter d es
+pub right_after : (d : MachineDesc) (items : List Item) (es : List Event) (ending : Ending) (before after : ChronicleView) (old new : List LineView) → IsDescription d → AreFaultless d items → EndsWith d items es before after old new ending → RightAfter d es
 right_after d items es course.Done before after old new described faultless ends = courses_are_right d items es described faultless ends
 right_after d items es (course.OutOfTurns line) before after old new described faultless ends = ends_are_right d items line es described faultless ends
 right_after d items es (course.Stopped line reason) before after old new described faultless ends = subst (λ (made : List Event). RightAfter d made) (sym ends.events_are) (stops_are_right d items line ends.made ends.event reason described faultless ends.comes)
 
-pub run_releases : (words : List (List ℕ)) (map : Option Map) (status : Status) (asks : RunFor words map) (ending : Ending) (before after : ChronicleView) (old new : List LineView) → status ≡ status_of ending → AreFaultless asks.desc asks.items → Takes asks.desc asks.items ending before after old new → Releases words map status before after old new
-run_releases words map status asks ending before after old new is faultless takes = record {
+pub run_releases : (form : Option Command) (map : Option Map) (status : Status) (asks : RunFor form map) (ending : Ending) (before after : ChronicleView) (old new : List LineView) → status ≡ status_of ending → AreFaultless asks.desc asks.items → Takes asks.desc asks.items ending before after old new → Releases form map status before after old new
+run_releases form map status asks ending before after old new is faultless takes = record {
   history = (machine_after asks.desc takes.events).history;
   appended = takes.released.history;
   released = (machine_after asks.desc takes.events).sent;
@@ -213,8 +213,8 @@ run_releases words map status asks ending before after old new is faultless take
   });
 }
 
-pub run_finishes : (words : List (List ℕ)) (map : Option Map) (status : Status) (asks : RunFor words map) (ending : Ending) (before after : ChronicleView) (old new : List LineView) → status ≡ status_of ending → AreFaultless asks.desc asks.items → Takes asks.desc asks.items ending before after old new → FinishesAsked words map status before after old new
-run_finishes words map status asks ending before after old new is faultless takes =
+pub run_finishes : (form : Option Command) (map : Option Map) (status : Status) (asks : RunFor form map) (ending : Ending) (before after : ChronicleView) (old new : List LineView) → status ≡ status_of ending → AreFaultless asks.desc asks.items → Takes asks.desc asks.items ending before after old new → FinishesAsked form map status before after old new
+run_finishes form map status asks ending before after old new is faultless takes =
     let each : FinishesAreDone asks.desc asks.items = finishes_are_done asks.desc asks.items asks.described faultless in
     record {
       asks = asks;
@@ -226,14 +226,14 @@ run_finishes words map status asks ending before after old new is faultless take
 
 -- ---- where no event is made
 
-pub idle : (words : List (List ℕ)) (status : Status) (before : ChronicleView) (old : List LineView) → IsStill words status → Idle words status before before old old
-idle words status before old still = record { still = still; chronicle = refl; bytes = all_stay old }
+pub idle : (form : Option Command) (status : Status) (before : ChronicleView) (old : List LineView) → IsStill form status → Idle form status before before old old
+idle form status before old still = record { still = still; chronicle = refl; bytes = all_stay old }
 
-pub loading_is_still : (words : List (List ℕ)) (status : Status) → EndsLoading status → IsStill words status
-loading_is_still words status ends = inl (ends_more (λ o. o ≡ usage → ⊥) (λ o. Unit {0}) (λ o other. tt) (moment_of status) ends)
+pub loading_is_still : (form : Option Command) (status : Status) → EndsLoading status → IsStill form status
+loading_is_still form status ends = inl (ends_more (λ o. o ≡ usage → ⊥) (λ o. Unit {0}) (λ o other. tt) (moment_of status) ends)
 
-pub idle_releases : (words : List (List ℕ)) (map : Option Map) (status : Status) (before after : ChronicleView) (old new : List LineView) → Idle words status before after old new → Releases words map status before after old new
-idle_releases words map status before after old new h = record {
+pub idle_releases : (form : Option Command) (map : Option Map) (status : Status) (before after : ChronicleView) (old new : List LineView) → Idle form status before after old new → Releases form map status before after old new
+idle_releases form map status before after old new h = record {
   history = [];
   appended = subst (λ (told : Option (List Entry)). Grows before.told told []) (sym (ap (λ v. v.told) h.chronicle)) (grows_none before.told);
   released = λ l. [];

@@ -8,8 +8,8 @@ use Rattle.seq_manifest.specs.declared.draft.Draft.{Draft}
 use Rattle.seq_manifest.specs.Drafts.{Describes}
 use Rattle.seq_manifest.specs.Faults.{first_fault as description_fault}
 use Rattle.seq_manifest.proofs.Unique.{one}
-use Rattle.seq_cli.specs.declared.status.Status.{Status}
-use Rattle.seq_cli.specs.declared.status.Status.TheVariants.{Done, Usage, Refused, Absent, MachineCheck, OutOfTurns, ShelfFault, ChronicleFault, LineFault, NoMemory}
+use Rattle.seq_report.specs.declared.status.Status.{Status}
+use Rattle.seq_report.specs.declared.status.Status.TheVariants.{Done, Usage, Refused, Absent, MachineCheck, OutOfTurns, ShelfFault, SinkFault, ChronicleFault, LineFault, NoMemory}
 use Rattle.seq_loader.specs.Image.{Spells}
 use Rattle.seq_loader.specs.Faults.{first_fault as image_fault}
 use Rattle.seq_asm.specs.Assembled.{Makes}
@@ -110,11 +110,12 @@ stops_work map failed form NoMemory work asked is h no_fault = refl
 stops_work map failed form Done work asked is h no_fault = absurd h
 stops_work map failed form (MachineCheck line stopped cause) work asked is h no_fault = absurd h
 stops_work map failed form (OutOfTurns line) work asked is h no_fault = absurd h
+stops_work map failed form SinkFault work asked is h no_fault = absurd h
 stops_work map failed form ChronicleFault work asked is h no_fault = absurd h
 stops_work map failed form (LineFault line) work asked is h no_fault = absurd h
 
-pub stops_ready : (words : List (List ℕ)) (map : Map) (failed : Option ℕ) (status : Status) → Stops (Opens words map failed) status → AsksRun (Opens words map None) → (status ≡ ShelfFault → ⊥) → status ≡ NoMemory
-stops_ready words map failed status h asks no_fault = stops_work map failed (form_of words) status (ready asks.desc asks.items asks.files) asks.asked tt h no_fault
+pub stops_ready : (map : Map) (failed : Option ℕ) (form : Option Command) (status : Status) → Stops (OpensForm map failed form) status → AsksRun (OpensForm map None form) → (status ≡ ShelfFault → ⊥) → status ≡ NoMemory
+stops_ready map failed form status h asks no_fault = stops_work map failed form status (ready asks.desc asks.items asks.files) asks.asked tt h no_fault
 
 pub stops_image : (map : Map) (failed : Option ℕ) (form : Option Command) (status : Status) → Stops (OpensForm map failed form) status → AsksImage (OpensForm map None form) → (status ≡ ShelfFault → ⊥) → status ≡ NoMemory
 stops_image map failed form status h asks no_fault = elim asks.asked [
@@ -160,9 +161,9 @@ machine_in (ready d items files) = Some d
 machine_in o = None
 
 -- a run that is asked for is of this machine and these items
-module _ (words : List (List ℕ)) (map : Map) (d : MachineDesc) (items : List Item) (files : List (List ℕ)) (h : Opens words map None (ready d items files)) (asks : AsksRun (Opens words map None)) where
+module _ (form : Option Command) (map : Map) (d : MachineDesc) (items : List Item) (files : List (List ℕ)) (h : OpensForm map None form (ready d items files)) (asks : AsksRun (OpensForm map None form)) where
   one_run : ready d items files ≡ ready asks.desc asks.items asks.files
-  one_run = one_opening words map None (ready d items files) (ready asks.desc asks.items asks.files) h asks.asked
+  one_run = one_form map None form (ready d items files) (ready asks.desc asks.items asks.files) h asks.asked
 
   pub same_items : items ≡ asks.items
   unfolding items_in

@@ -2,6 +2,11 @@ pub mod Openings
 pub mod Completing
 pub mod Deterministic
 pub mod Scheduled
+pub mod Naming
 pub mod Courses
 pub mod Storing
 pub mod Still
+pub mod Ran
+pub mod Reported
+pub mod Printed
+pub mod Masks

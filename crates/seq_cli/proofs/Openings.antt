@@ -4,9 +4,10 @@ use Rattle.std.proofs.lemmas.Bool.{lt-ltb, le-ltb, ne_eqb, false≢true}
 use Rattle.std.proofs.lemmas.List.{length_push, length-take, take-append-drop, take_more, take_all, drop_more}
 use Rattle.seq_words.specs.declared.events.ReadError.{ReadError}
 use Rattle.seq_words.specs.declared.events.ReadError.TheVariants as read
+use Rattle.seq_words.specs.declared.bytes.NoMemory.{NoMemory}
 use Rattle.seq_words.specs.declared.description.MachineDesc.{MachineDesc}
-use Rattle.seq_cli.specs.declared.status.Status.{Status}
-use Rattle.seq_cli.specs.declared.status.Status.TheVariants.{Refused, Absent, ShelfFault}
+use Rattle.seq_report.specs.declared.status.Status.{Status}
+use Rattle.seq_report.specs.declared.status.Status.TheVariants.{Refused, Absent, ShelfFault}
 use Rattle.seq_shelf.specs.Told.{Map}
 use Rattle.seq_manifest.specs.declared.draft.Draft.{Draft}
 use Rattle.seq_manifest.specs.Drafts.{Describes}
@@ -22,7 +23,7 @@ use Rattle.seq_cli.specs.Parts.{part_fault, Completes, names_of, OpensParts}
 use Rattle.seq_schedule.specs.declared.forms.Gate.TheVariants.{Built}
 use Rattle.seq_schedule.specs.Rules.{first_fault as schedule_fault}
 use Rattle.seq_cli.specs.Opening.{Schedules, OpensItems, OpensSchedule, OpensMachine, OpensStore, OpensSource, OpensListing, OpensForm, Opens}
-use Rattle.seq_cli.specs.Endings.{Moment, early, wanting, ran, finished, moment_of, EndsAsked, EndsEarly, Stops}
+use Rattle.seq_cli.specs.Endings.{Moment, early, wanting, ran, finished, printing, moment_of, EndsAsked, EndsEarly, Stops}
 use Rattle.seq_cli.specs.Loads.{Loads, LoadStops, TextStops, NoValue, NoNext, no_fault, failed_of, error_status, PartsLoaded, PartsStop}
 
 -- an ending that is asked for, where more is asked for, and at any time
@@ -31,12 +32,14 @@ ends_more Asked More f (early o) h = f o h
 ends_more Asked More f wanting h = tt
 ends_more Asked More f ran h = absurd h
 ends_more Asked More f finished h = absurd h
+ends_more Asked More f printing h = absurd h
 
 pub ends_at_all : (Asked : Opening → Type 0) (e : Moment) → EndsEarly Asked e → EndsAsked Asked e
 ends_at_all Asked (early o) h = h
 ends_at_all Asked wanting h = tt
 ends_at_all Asked ran h = absurd h
 ends_at_all Asked finished h = absurd h
+ends_at_all Asked printing h = absurd h
 
 -- a text above the limit violates rule 1, and no other
 fault_above : (fault : List ℕ → Option (ℕ × ℕ)) (text : List ℕ) → file_limit < length text → file_fault fault text ≡ Some (file_limit, 1)
@@ -192,8 +195,8 @@ pub parts_all : (map : Map) (names before : List (List ℕ)) (n : ℕ) (d : Mach
 parts_all map names before n d after e all h = subst (λ (ns : List (List ℕ)). PartsLoaded map 0 ns before d after e) (take_all n names all) h
 
 -- the same of the record
-pub stops_record : (map : Map) (status : Status) (names before : List (List ℕ)) (d : MachineDesc) (next : List (List ℕ) → MachineDesc → Opening → Type 0) (h : PartsStop map names before d status) → Stops (OpensParts map (failed_of status (length h.files)) 0 names before d next) status
-stops_record map status names before d next h =
+pub stops_record : (map : Map) (status : Status) (text : Result (List ℕ) NoMemory) (names before : List (List ℕ)) (d : MachineDesc) (next : List (List ℕ) → MachineDesc → Opening → Type 0) (h : PartsStop map names before d status text) → Stops (OpensParts map (failed_of status (length h.files)) 0 names before d next) status
+stops_record map status text names before d next h =
     subst (λ (ns : List (List ℕ)). Stops (OpensParts map (failed_of status (length h.files)) 0 ns before d next) status) (sym h.split)
     (named h.name h.named h.stops)
   where

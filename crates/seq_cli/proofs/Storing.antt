@@ -9,8 +9,8 @@ use Rattle.seq_asm.specs.Rules.{first_fault as source_fault}
 use Rattle.seq_loader.proofs.Written.{first_fault-spelling}
 use Rattle.seq_words.specs.declared.events.ReadError.{ReadError}
 use Rattle.seq_words.specs.declared.events.ReadError.TheVariants as read
-use Rattle.seq_cli.specs.declared.status.Status.{Status}
-use Rattle.seq_cli.specs.declared.status.Status.TheVariants.{Done, Usage, Refused, Absent, MachineCheck, OutOfTurns, ShelfFault, ChronicleFault, LineFault, NoMemory}
+use Rattle.seq_report.specs.declared.status.Status.{Status}
+use Rattle.seq_report.specs.declared.status.Status.TheVariants.{Done, Usage, Refused, Absent, MachineCheck, OutOfTurns, ShelfFault, SinkFault, ChronicleFault, LineFault, NoMemory}
 use Rattle.seq_cli.specs.Commands.{asm, list}
 use Rattle.seq_cli.specs.Files.{faulty, made, listed, fails, file_limit}
 use Rattle.seq_cli.specs.Opening.{OpensForm, OpensStore, OpensSource, OpensListing}
@@ -37,6 +37,7 @@ loading_leaves source name (Refused file place rule) old new ends same = same
 loading_leaves source name (Absent file) old new ends same = same
 loading_leaves source name (MachineCheck line stopped cause) old new ends same = same
 loading_leaves source name (OutOfTurns line) old new ends same = same
+loading_leaves source name SinkFault old new ends same = same
 loading_leaves source name ChronicleFault old new ends same = same
 loading_leaves source name (LineFault line) old new ends same = same
 

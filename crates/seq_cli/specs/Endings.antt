@@ -11,8 +11,8 @@ use Rattle.seq_machine.specs.declared.hardware.Stop.TheVariants as stop
 use Rattle.seq_course.specs.Course.{ComesTo}
 use Rattle.seq_course.specs.declared.ending.Ending.{Ending}
 use Rattle.seq_course.specs.declared.ending.Ending.TheVariants as course
-use Rattle.seq_cli.specs.declared.status.Status.{Status}
-use Rattle.seq_cli.specs.declared.status.Status.TheVariants.{Done, Usage, Refused, Absent, MachineCheck, OutOfTurns, ShelfFault, ChronicleFault, LineFault, NoMemory}
+use Rattle.seq_report.specs.declared.status.Status.{Status}
+use Rattle.seq_report.specs.declared.status.Status.TheVariants.{Done, Usage, Refused, Absent, MachineCheck, OutOfTurns, ShelfFault, SinkFault, ChronicleFault, LineFault, NoMemory}
 use Rattle.seq_cli.specs.Files.{Opening, usage, absent, refused, faulty}
 use Rattle.seq_cli.specs.Opening.{AsksRun, AsksImage}
 
@@ -35,12 +35,15 @@ pub data Moment : Type 0 where
   ran : Moment
   -- with all done: a run, or an image that is stored or listed
   finished : Moment
+  -- by what it prints, and not before
+  printing : Moment
 
 abbrev pub moment_of : Status → Moment
 moment_of Usage = early usage
 moment_of (Absent file) = early (absent file)
 moment_of (Refused file place rule) = early (refused file place rule)
 moment_of ShelfFault = early faulty
+moment_of SinkFault = printing
 moment_of NoMemory = wanting
 moment_of Done = finished
 moment_of (MachineCheck line stopped cause) = ran
@@ -48,12 +51,13 @@ moment_of (OutOfTurns line) = ran
 moment_of ChronicleFault = ran
 moment_of (LineFault line) = ran
 
--- a command ends only when it is asked to: of want of memory nothing is said here
+-- before it prints, a command ends only when it is asked to: of want of memory nothing is said here
 abbrev pub EndsAsked : (Opening → Type 0) → Moment → Type 0
 EndsAsked Asked (early o) = Asked o
 EndsAsked Asked wanting = Unit {0}
 EndsAsked Asked ran = AsksRun Asked
 EndsAsked Asked finished = AsksRun Asked ⊎ AsksImage Asked
+EndsAsked Asked printing = ⊥
 
 -- the same before any run
 abbrev pub EndsEarly : (Opening → Type 0) → Moment → Type 0
@@ -61,6 +65,7 @@ EndsEarly Asked (early o) = Asked o
 EndsEarly Asked wanting = Unit {0}
 EndsEarly Asked ran = ⊥
 EndsEarly Asked finished = ⊥
+EndsEarly Asked printing = ⊥
 
 -- A status is given only where it is asked for.
 abbrev pub Answers : (Opening → Type 0) → Status → Type 0

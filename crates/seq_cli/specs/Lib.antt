@@ -5,5 +5,8 @@ pub mod Opening
 pub mod Endings
 pub mod Stored
 pub mod Loads
+pub mod Running
 pub mod Top
-pub mod Numbers
+pub mod Names
+pub mod Texts
+pub mod Printing

@@ -1,14 +1,16 @@
 -- What the loading of the next file gives.
-use Rattle.std.specs.Prelude.{◌≡◌, ◌≢◌, ◌⊎◌, ℕ, ◌+◌, Option, Some, None, List, [], ◌∷◌, ◌++◌, length}
+use Rattle.std.specs.Prelude.{◌≡◌, ◌≢◌, ◌⊎◌, ℕ, ◌+◌, Option, Some, None, Result, IfOk, List, [], ◌∷◌, ◌++◌, length}
 use Rattle.seq_words.specs.declared.events.ReadError.{ReadError}
 use Rattle.seq_words.specs.declared.events.ReadError.TheVariants as read
 use Rattle.seq_words.specs.declared.description.MachineDesc.{MachineDesc}
+use Rattle.seq_words.specs.declared.bytes.NoMemory.{NoMemory as OutOfMemory}
 use Rattle.seq_shelf.specs.Told.{Map}
-use Rattle.seq_cli.specs.declared.status.Status.{Status}
-use Rattle.seq_cli.specs.declared.status.Status.TheVariants.{Done, Refused, ShelfFault, NoMemory}
+use Rattle.seq_report.specs.declared.status.Status.{Status}
+use Rattle.seq_report.specs.declared.status.Status.TheVariants.{Done, Refused, ShelfFault, NoMemory}
 use Rattle.seq_cli.specs.Files.{Opening, usage, file_fault, OpensFile}
 use Rattle.seq_cli.specs.Parts.{part_fault, Completes}
 use Rattle.seq_cli.specs.Endings.{Stops}
+use Rattle.seq_cli.specs.Texts.{IsLineOf}
 
 -- a status with which a loading ends: an early one, but not usage
 abbrev pub EndsLoading : Status → Type 0
@@ -61,8 +63,8 @@ PartsLoaded map n ([] ∷ names) before d after e = PartsLoaded map (n + 1) name
 PartsLoaded map n ((b ∷ bytes) ∷ names) before d after e =
     (files : List (List ℕ)) × (c : MachineDesc) × Loads (part_fault d n) (Completes d n) (map (b ∷ bytes)) before files c × PartsLoaded map (n + 1) names files c after e
 
--- After some parts were loaded, the file of the next one ends the loading with this status.
-pub record PartsStop (map : Map) (names : List (List ℕ)) (before : List (List ℕ)) (d : MachineDesc) (status : Status) : Type 0 where
+-- After some parts were loaded, the file of the next one ends the loading with this status, and the text is the line of that file.
+pub record PartsStop (map : Map) (names : List (List ℕ)) (before : List (List ℕ)) (d : MachineDesc) (status : Status) (text : Result (List ℕ) OutOfMemory) : Type 0 where
   pub front : List (List ℕ)
   pub name : List ℕ
   pub rest : List (List ℕ)
@@ -72,3 +74,4 @@ pub record PartsStop (map : Map) (names : List (List ℕ)) (before : List (List 
   pub loaded : PartsLoaded map 0 front before d files desc
   pub named : name ≢ []
   pub stops : LoadStops status files (part_fault desc (length front)) (map name)
+  pub line : IfOk text (IsLineOf status name)

@@ -4,8 +4,8 @@ use Rattle.seq_shelf.specs.Told.{Map, Stores, KeepsOthers}
 use Rattle.seq_loader.specs.declared.image.Image.{Image}
 use Rattle.seq_loader.specs.Image.{Spells}
 use Rattle.seq_asm.specs.Assembled.{Makes}
-use Rattle.seq_cli.specs.declared.status.Status.{Status}
-use Rattle.seq_cli.specs.declared.status.Status.TheVariants.{Done, Usage, Refused, Absent, MachineCheck, OutOfTurns, ShelfFault, ChronicleFault, LineFault, NoMemory}
+use Rattle.seq_report.specs.declared.status.Status.{Status}
+use Rattle.seq_report.specs.declared.status.Status.TheVariants.{Done, Usage, Refused, Absent, MachineCheck, OutOfTurns, ShelfFault, SinkFault, ChronicleFault, LineFault, NoMemory}
 use Rattle.seq_cli.specs.Commands.{Command, run, asm, list}
 
 -- The source makes this image, whose written form is stored under a name. Every other file is as before.
@@ -25,6 +25,7 @@ LeavesImage source name (Refused file place rule) old new = new ≡ old
 LeavesImage source name (Absent file) old new = new ≡ old
 LeavesImage source name (MachineCheck line stopped cause) old new = new ≡ old
 LeavesImage source name (OutOfTurns line) old new = new ≡ old
+LeavesImage source name SinkFault old new = new ≡ old
 LeavesImage source name ChronicleFault old new = new ≡ old
 LeavesImage source name (LineFault line) old new = new ≡ old
 

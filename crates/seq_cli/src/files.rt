@@ -12,9 +12,9 @@ ghost use Rattle.seq_cli.specs.Parts.{part_fault, Completes};
 ghost use Rattle.seq_cli.specs.Opening.{Schedules};
 ghost use Rattle.seq_cli.specs.Loads.{EndsLoading, Loads, LoadStops, TextStops, error_status};
 
-use crate::Status;
 use crate::parts::read_part;
 use seq_manifest::{Draft, read as read_description};
+use seq_report::Status;
 use seq_schedule::{Item, parse};
 use seq_shelf::{LoadError, Shelf};
 use seq_words::{Bytes, Items, MachineDesc, ReadError};

@@ -1,5 +1,5 @@
 // The parts of a machine that have files of their own: the images of its processes, and the first bytes of its segments.
-ghost use Rattle.std.specs.Prelude.{◌≡◌, ◌≢◌, ◌<◌, ◌≤◌, ◌+◌, ◌-◌, ◌^◌, ◌⊎◌, ℕ, List, [], ◌∷◌, ◌++◌, Some, None, length, true, slice_index_or, IfOk, IfErr, OnOk, IsErrOf};
+ghost use Rattle.std.specs.Prelude.{◌≡◌, ◌≢◌, ◌<◌, ◌≤◌, ◌+◌, ◌-◌, ◌^◌, ◌⊎◌, ℕ, List, [], ◌∷◌, ◌++◌, Some, None, length, true, slice_index_or, IfOk, IfErr, OnOk};
 ghost use Rattle.seq_words.specs.Description.{IsDescription, segment_of};
 ghost use Rattle.seq_shelf.specs.Causes.{Rose};
 ghost use Rattle.seq_shelf.specs.Told.{Map};
@@ -8,10 +8,12 @@ ghost use Rattle.seq_loader.specs.Image.{Spells};
 ghost use Rattle.seq_loader.specs.Faults.{first_fault};
 ghost use Rattle.seq_manifest.specs.Drafts.{IsDraft};
 ghost use Rattle.seq_manifest.specs.Statements.{is_file};
+ghost use Rattle.seq_report.specs.declared.status.Status.TheVariants.{ShelfFault};
 ghost use Rattle.seq_cli.specs.Parts.{names_of, is_process, with_image, with_first, segment_fault, part_fault, Completes, IsPartly};
 ghost use Rattle.seq_cli.specs.Loads.{EndsLoading, LoadStops, PartsLoaded, PartsStop};
+ghost use Rattle.seq_cli.specs.Texts.{IsLineOf};
 
-use crate::Status;
+use crate::answer::{Answer, ended_by};
 use crate::files::load_part;
 use seq_loader::{Image, read_image};
 use seq_manifest::Draft;
@@ -145,7 +147,7 @@ fn open_part<S: Shelf>(
     desc: &mut MachineDesc,
     n: usize,
     name: &[u8],
-) -> Result<(), Status>
+) -> Result<(), Answer>
     requires few { length files.old + 1 < 2 ^ 32 }
     requires there { n < length desc.old.processes + length desc.old.segments }
     requires named { (name.now ≡ []) ⊎ (is_file name.now ≡ true) }
@@ -153,22 +155,27 @@ fn open_part<S: Shelf>(
     requires partly { IsPartly n desc.old }
     ensures same { (S.shelf shelf.new).told ≡ (S.shelf shelf.old).told }
     ensures faults { (S.shelf shelf.old).faults ≤ (S.shelf shelf.new).faults }
-    ensures cause { IsErrOf result Status.ShelfFault → Rose (S.shelf shelf.old).faults (S.shelf shelf.new).faults }
-    ensures ends { IfErr result EndsLoading }
+    ensures cause { IfErr result (λ a. a.status ≡ ShelfFault → Rose (S.shelf shelf.old).faults (S.shelf shelf.new).faults) }
+    ensures ends { IfErr result (λ a. EndsLoading a.status) }
     ensures few { OnOk result (length files.new ≤ length files.old + 1) }
     ensures processes { OnOk result (length desc.new.processes ≡ length desc.old.processes) }
     ensures segments { OnOk result (length desc.new.segments ≡ length desc.old.segments) }
     ensures partly { OnOk result (IsPartly (n + 1) desc.new) }
     ensures ok { (m : Map) → (S.shelf shelf.old).told ≡ Some m →
         OnOk result (PartsLoaded m n (name.now ∷ []) files.old desc.old files.new desc.new) }
-    ensures named { IfErr result (λ s. name.now ≢ []) }
+    ensures named { IfErr result (λ a. name.now ≢ []) }
     ensures err { (m : Map) → (S.shelf shelf.old).told ≡ Some m →
-        IfErr result (λ s. LoadStops s files.old (part_fault desc.old n) (m name.now)) }
+        IfErr result (λ a. LoadStops a.status files.old (part_fault desc.old n) (m name.now)) }
+    ensures line { IfErr result (λ a. IfOk a.text (IsLineOf a.status name.now)) }
 {
     if name.is_empty() {
         return Ok(());
     }
-    load_part(alloc, shelf, files, desc, n, file_name(name))
+    let name = file_name(name);
+    match load_part(alloc, shelf, files, desc, n, name) {
+        Ok(()) => Ok(()),
+        Err(status) => Err(ended_by(alloc, status, name)),
+    }
 }
 
 /// Loads and reads the files of a draft's parts in their order.
@@ -177,26 +184,27 @@ pub fn load_parts<S: Shelf>(
     shelf: &mut S,
     files: &mut Items<Bytes>,
     draft: Draft,
-) -> Result<MachineDesc, Status>
+) -> Result<MachineDesc, Answer>
     requires few { length files.old ≤ 1 }
     requires draft { IsDraft draft }
     ensures same { (S.shelf shelf.new).told ≡ (S.shelf shelf.old).told }
     ensures faults { (S.shelf shelf.old).faults ≤ (S.shelf shelf.new).faults }
-    ensures cause { IsErrOf result Status.ShelfFault → Rose (S.shelf shelf.old).faults (S.shelf shelf.new).faults }
-    ensures ends { IfErr result EndsLoading }
+    ensures cause { IfErr result (λ a. a.status ≡ ShelfFault → Rose (S.shelf shelf.old).faults (S.shelf shelf.new).faults) }
+    ensures ends { IfErr result (λ a. EndsLoading a.status) }
     ensures few { OnOk result (length files.new ≤ 33) }
     ensures described { IfOk result IsDescription }
     ensures ok { (m : Map) → (S.shelf shelf.old).told ≡ Some m →
         IfOk result (PartsLoaded m 0 (names_of draft) files.old draft.desc files.new) }
     ensures err { (m : Map) → (S.shelf shelf.old).told ≡ Some m →
-        IfErr result (PartsStop m (names_of draft) files.old draft.desc) }
+        IfErr result (λ a. PartsStop m (names_of draft) files.old draft.desc a.status a.text) }
+    ensures line { IfErr result (λ a. (name : List ℕ) × IfOk a.text (IsLineOf a.status name)) }
 {
     let parts = draft.images.len() + draft.firsts.len();
     let mut desc = draft.desc;
     for n in 0..parts {
         let name = part_name(&draft.images, &draft.firsts, n);
-        if let Err(status) = open_part(alloc, shelf, files, &mut desc, n, name) {
-            return Err(status);
+        if let Err(answer) = open_part(alloc, shelf, files, &mut desc, n, name) {
+            return Err(answer);
         }
     }
     Ok(desc)

@@ -103,7 +103,7 @@ fn open(alloc: Global, row: Row) -> Result<Result<(usize, u32, u32, usize, usize
     };
     let desc = match load_parts(alloc, &mut shelf, &mut files, draft) {
         Ok(desc) => desc,
-        Err(status) => return Ok(Err(status)),
+        Err(answer) => return Ok(Err(answer.status)),
     };
     let Some(process) = desc.processes.as_slice().last() else {
         return Err(Fail::from("no process"));
@@ -132,12 +132,19 @@ fn parts_are_loaded_in_their_order(rt: HostRuntime) -> Result<(), Fail> {
     Ok(())
 }
 
+fn listed(alloc: Global, shelf: &mut SoundShelf) -> Result<Bytes, Status> {
+    match list_file(alloc, shelf, "a.sqi") {
+        Ok(text) => Ok(text),
+        Err(answer) => Err(answer.status),
+    }
+}
+
 fn listing(alloc: Global, source: &str) -> Result<Result<Bytes, Status>, Fail> {
     let mut shelf = SoundShelf::new(alloc);
     shelf.put("a.s", source.as_bytes())?;
     match assemble_file(alloc, &mut shelf, "a.s", "a.sqi") {
-        Ok(_) => Ok(list_file(alloc, &mut shelf, "a.sqi")),
-        Err(status) => Ok(Err(status)),
+        Ok(_) => Ok(listed(alloc, &mut shelf)),
+        Err(answer) => Ok(Err(answer.status)),
     }
 }
 

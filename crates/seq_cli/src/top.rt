@@ -1,61 +1,66 @@
 // The top call: all that the program does.
-ghost use Rattle.std.specs.Prelude.{◌≡◌, ◌↔◌, ◌≤◌, ℕ, List, [], length, Some, None, false, map as list_map, string_bytes, IfOk, OnOk, OnErr, ◌+◌, ◌++◌, ◌∷◌};
+ghost use Rattle.std.specs.Prelude.{◌≡◌, ◌≤◌, ℕ, List, [], length, Some, None, false, map as list_map, string_bytes, IfOk, OnOk, OnErr, ◌+◌, ◌++◌, ◌∷◌};
 ghost use Rattle.seq_shelf.specs.Causes.{Rose};
 ghost use Rattle.seq_shelf.specs.Outlets.{views, marks};
 ghost use Rattle.seq_shelf.specs.Told.{Map};
-ghost use Rattle.seq_words.specs.Description.{IsDescription};
-ghost use Rattle.seq_shelf.specs.Rows.{line_at, AllAccept, AreFresh};
-ghost use Rattle.seq_schedule.specs.Faultless.{AreFaultless};
-ghost use Rattle.seq_course.specs.Made.{Takes};
-ghost use Rattle.seq_cli.specs.Commands.{form_of};
-ghost use Rattle.seq_cli.specs.Opening.{Opens, AsksRun, AsksImage};
+ghost use Rattle.seq_shelf.specs.Rows.{line_at, AreFresh};
+ghost use Rattle.seq_cli.specs.Commands.{form_of, command_of};
+ghost use Rattle.seq_cli.specs.Opening.{OpensForm, Opens, AsksRun, AsksImage};
 ghost use Rattle.seq_cli.specs.Endings.{EndsFaultless, EndsStillFaultless};
-ghost use Rattle.seq_cli.specs.Stored.{Leaves};
-ghost use Rattle.seq_cli.specs.Top.{Releases, Runs, Finishes, ChecksAsked, IsAnswered};
+ghost use Rattle.seq_cli.specs.Printing.{Ends};
+ghost use Rattle.seq_cli.specs.Texts.{IsReportAsked, IsText};
+ghost use Rattle.seq_cli.specs.Top.{Ended};
 
-use crate::Status;
+use crate::answer::Answer;
 use crate::command::{Command, read_form};
-use crate::images::{assemble_status, list_status};
-use crate::opening::{Loaded, open};
-use crate::status::status_of;
-use seq_course::{Ending, courses_check_uncovered, run};
-use seq_machine::Hardware;
+use crate::images::{assemble_command, list_command};
+use crate::printing::{print, print_usage};
+use crate::running::run_command;
+use seq_report::Status;
 use seq_shelf::{Chronicle, Line, Outlet, Shelf, Sink};
 use seq_words::NoMemory;
 use std::alloc::Global;
 
-// Runs what was loaded: makes the machine, and takes the course of the schedule's items on it.
-fn run_loaded<C: Chronicle>(
+// Carries a command out, up to the printing.
+fn carry_out<S: Shelf, C: Chronicle>(
     alloc: Global,
-    loaded: Loaded,
+    command: Command,
+    shelf: &mut S,
     lines: &mut Vec<Outlet>,
     chronicle: &mut C,
-) -> Result<Ending, NoMemory>
-    requires described { IsDescription loaded.desc }
-    requires faultless { AreFaultless loaded.desc loaded.items }
+) -> Answer
     requires sixteen { length lines.old.items ≡ 16 }
     requires fresh { AreFresh (views line lines.old.items) (marks lines.old.items) }
-    ensures takes { IfOk result (λ ending. Takes loaded.desc loaded.items ending (C.chronicle chronicle.old) (C.chronicle chronicle.new)
-        (views line lines.old.items) (views line lines.new.items)) }
-    ensures err { OnErr result (C.chronicle chronicle.new ≡ C.chronicle chronicle.old) }
-    ensures err_lines { OnErr result (AllAccept (views line lines.old.items) (views line lines.new.items) (λ l. [])) }
+    ensures ended { Ended (Some (command_of command.entry)) result.status (S.shelf shelf.old) (S.shelf shelf.new)
+        (C.chronicle chronicle.old) (C.chronicle chronicle.new) (views line lines.old.items) (views line lines.new.items) }
+    ensures text { IfOk result.text (IsText (Some (command_of command.entry)) (S.shelf shelf.old).told (S.shelf shelf.new).told
+        (λ status. IsReportAsked (Some (command_of command.entry)) (S.shelf shelf.old).told status
+        (C.chronicle chronicle.old) (C.chronicle chronicle.new) (views line lines.old.items) (views line lines.new.items) (marks lines.new.items))
+        result.status) }
+    ensures complete { (m : Map) → (S.shelf shelf.old).told ≡ Some m → (asks : AsksRun (OpensForm m None (Some (command_of command.entry))))
+        → ¬ Rose (S.shelf shelf.old).faults (S.shelf shelf.new).faults
+        → ¬ Rose (C.chronicle chronicle.old).faults (C.chronicle chronicle.new).faults
+        → ((l : ℕ) → ¬ Rose (line_at (views line lines.old.items) l).faults (line_at (views line lines.new.items) l).faults)
+        → EndsFaultless asks.desc asks.items result.status }
+    ensures complete_image { (m : Map) → (S.shelf shelf.old).told ≡ Some m → AsksImage (OpensForm m None (Some (command_of command.entry)))
+        → ¬ Rose (S.shelf shelf.old).faults (S.shelf shelf.new).faults → EndsStillFaultless result.status }
     ensures hung { marks lines.new.items ≡ marks lines.old.items }
 {
-    let mut hardware = Hardware::new(alloc, loaded.desc)?;
-    run(
-        alloc,
-        loaded.items.as_slice(),
-        &mut hardware,
-        lines,
-        chronicle,
-    )
+    match command {
+        Command::Run { machine, schedule } => {
+            run_command(alloc, shelf, machine, schedule, lines, chronicle)
+        }
+        Command::Assemble { source, image } => assemble_command(alloc, shelf, source, image),
+        Command::List { image } => list_command(alloc, shelf, image),
+    }
 }
 
-/// Does what the words ask for, and answers how that ended: it loads the files and runs the machine; or it assembles a source
-/// and stores the image; or it lists an image.
+/// Does what the words ask for, prints its text to the sink, and answers how that ended: it loads the files, runs the machine and
+/// reports the run; or it assembles a source and stores the image; or it lists an image.
 ///
 /// `words` are those after the program's name. The files of a run are looked at in their order: the machine, its parts, the
-/// schedule; each is loaded and read before the next. Line l of the machine is entry l of `lines`.
+/// schedule; each is loaded and read before the next. Line l of the machine is entry l of `lines`. The text goes to the sink in one
+/// piece, behind all else.
 pub fn sequoia<S: Shelf, K: Sink, C: Chronicle>(
     alloc: Global,
     words: &[String],
@@ -67,31 +72,20 @@ pub fn sequoia<S: Shelf, K: Sink, C: Chronicle>(
     requires sixteen { length lines.old.items ≡ 16 }
     requires fresh { AreFresh (views line lines.old.items) (marks lines.old.items) }
 
-    // Under every status: the released bytes are a prefix of the flat output along the appended history.
-    ensures released { Releases (list_map string_bytes words.now) (S.shelf shelf.old).told result
-        (C.chronicle chronicle.old) (C.chronicle chronicle.new) (views line lines.old.items) (views line lines.new.items) }
-
-    // Under every status: history and bytes are exactly those of the machine, for the events that the status says were made.
-    ensures runs { Runs (list_map string_bytes words.now) (S.shelf shelf.old).told result
-        (C.chronicle chronicle.old) (C.chronicle chronicle.new) (views line lines.old.items) (views line lines.new.items) }
-
-    // At the end of each `finish` that ended, all output is released, and no process can take a step.
-    ensures finished { Finishes (list_map string_bytes words.now) (S.shelf shelf.old).told result
-        (C.chronicle chronicle.old) (C.chronicle chronicle.new) (views line lines.old.items) (views line lines.new.items) }
-
-    // Each status has its cause. That of want of memory, of a `finish` that runs out of turns and of a machine check is in `runs`.
-    ensures usage { result ≡ Status.Usage ↔ (form_of (list_map string_bytes words.now) ≡ None) }
-    ensures answers { (m : Map) → (S.shelf shelf.old).told ≡ Some m →
-        IsAnswered (list_map string_bytes words.now) m result }
-    ensures shelf_fault { result ≡ Status.ShelfFault → Rose (S.shelf shelf.old).faults (S.shelf shelf.new).faults }
-    ensures chronicle_fault { result ≡ Status.ChronicleFault → Rose (C.chronicle chronicle.old).faults (C.chronicle chronicle.new).faults }
-    ensures line_fault { (l : _) → result ≡ Status.LineFault l →
-        Rose (line_at (views line lines.old.items) l.0).faults (line_at (views line lines.new.items) l.0).faults }
-
-    // A machine check is one of the run, and comes only where the events that were made, the check included, aren't covered.
-    ensures check { (at : ℕ) (stopped : _) (cause : _) → result ≡ Status.MachineCheck at stopped cause →
-        ChecksAsked (list_map string_bytes words.now) (S.shelf shelf.old).told at stopped cause
-        (C.chronicle chronicle.old) (C.chronicle chronicle.new) (views line lines.old.items) (views line lines.new.items) }
+    // The call ended with a status before it printed, in whose place a fault of the sink, or want of memory, may stand. Of that status
+    // all this holds in either case, and its text is what is printed: whole, but for a fault of the sink, and for want of memory.
+    // - The released bytes are a prefix of the flat output along the appended history.
+    // - History and bytes are exactly those of the machine, for the events that the status says were made.
+    // - At the end of each `finish` that ended, all output is released, and no process can take a step.
+    // - The status has its cause: the words, the files, a count that rose, or events that aren't covered.
+    // - The files are as before, but for the image that is assembled.
+    ensures ended { let form = form_of (list_map string_bytes words.now) in Ends result
+        (λ status. Ended form status (S.shelf shelf.old) (S.shelf shelf.new)
+        (C.chronicle chronicle.old) (C.chronicle chronicle.new) (views line lines.old.items) (views line lines.new.items))
+        (IsText form (S.shelf shelf.old).told (S.shelf shelf.new).told (λ status. IsReportAsked form (S.shelf shelf.old).told status
+        (C.chronicle chronicle.old) (C.chronicle chronicle.new) (views line lines.old.items) (views line lines.new.items) (marks lines.new.items)))
+        (K.sink sink.old).told (K.sink sink.new).told }
+    ensures sink_fault { result ≡ Status.SinkFault → Rose (K.sink sink.old).faults (K.sink sink.new).faults }
 
     // Where a run is asked for and no count rises, it comes to its end, or to a `finish` that runs out of turns, unless memory is
     // wanting, or events that aren't covered come to a machine check.
@@ -99,36 +93,23 @@ pub fn sequoia<S: Shelf, K: Sink, C: Chronicle>(
         → ¬ Rose (S.shelf shelf.old).faults (S.shelf shelf.new).faults
         → ¬ Rose (C.chronicle chronicle.old).faults (C.chronicle chronicle.new).faults
         → ((l : ℕ) → ¬ Rose (line_at (views line lines.old.items) l).faults (line_at (views line lines.new.items) l).faults)
+        → ¬ Rose (K.sink sink.old).faults (K.sink sink.new).faults
         → EndsFaultless asks.desc asks.items result }
 
     // Where an image is asked for, to be stored or listed, and no count rises, all is done, unless memory is wanting.
     ensures complete_image { (m : Map) → (S.shelf shelf.old).told ≡ Some m → AsksImage (Opens (list_map string_bytes words.now) m None)
-        → ¬ Rose (S.shelf shelf.old).faults (S.shelf shelf.new).faults → EndsStillFaultless result }
-
-    // Under Done of `asm` the file of that name holds the written image of the source; every other file is as before.
-    ensures shelf { Leaves (form_of (list_map string_bytes words.now)) result (S.shelf shelf.old).told (S.shelf shelf.new).told }
+        → ¬ Rose (S.shelf shelf.old).faults (S.shelf shelf.new).faults
+        → ¬ Rose (K.sink sink.old).faults (K.sink sink.new).faults → EndsStillFaultless result }
 
     // What it leaves alone.
-    ensures sink { K.sink sink.new ≡ K.sink sink.old }
     ensures hung { marks lines.new.items ≡ marks lines.old.items }
 {
-    let command = match read_form(words) {
-        Some(command) => command,
-        None => return Status::Usage,
-    };
-    let (machine, schedule) = match command {
-        Command::Run { machine, schedule } => (machine, schedule),
-        Command::Assemble { source, image } => return assemble_status(alloc, shelf, source, image),
-        Command::List { image } => return list_status(alloc, shelf, image),
-    };
-    let loaded = match open(alloc, shelf, machine, schedule) {
-        Ok(loaded) => loaded,
-        Err(status) => return status,
-    };
-    courses_check_uncovered();
-    match run_loaded(alloc, loaded, lines, chronicle) {
-        Ok(ending) => status_of(&ending),
-        Err(_) => Status::NoMemory,
+    match read_form(words) {
+        Some(command) => {
+            let answer = carry_out(alloc, command, shelf, lines, chronicle);
+            print(sink, answer)
+        }
+        None => print_usage(sink),
     }
 }
 

@@ -7,7 +7,7 @@ use Rattle.std.proofs.lemmas.List.{append-nil}
 use Rattle.seq_words.specs.Masks.{has_bit}
 use Rattle.seq_words.specs.declared.events.Entry.{Entry}
 use Rattle.seq_flat.specs.declared.state.ProcessState.{ProcessState}
-use Rattle.seq_report.specs.declared.status.Status.TheVariants.{Done, Usage, Refused, Absent, MachineCheck, OutOfTurns, ShelfFault, ChronicleFault, LineFault, NoMemory}
+use Rattle.seq_report.specs.declared.status.Status.TheVariants.{Done, Usage, Refused, Absent, MachineCheck, OutOfTurns, ShelfFault, SinkFault, ChronicleFault, LineFault, NoMemory}
 use Rattle.seq_report.specs.Texts.{first_line, history_line, end_words, process_line, process_lines, hung_words, sent_line, sent_lines}
 use Rattle.seq_report.specs.Laws.{EndsLine, ReportsEndLines, SinglesEndLines, AssembledEndsLine}
 
@@ -41,6 +41,7 @@ singles_end_lines (MachineCheck line stopped cause) name single = absurd (false�
 singles_end_lines (OutOfTurns line) name single = absurd (false≢true single)
 singles_end_lines (LineFault line) name single = absurd (false≢true single)
 singles_end_lines ChronicleFault name single = absurd (false≢true single)
+singles_end_lines SinkFault name single = absurd (false≢true single)
 singles_end_lines Usage name single = absurd (false≢true single)
 singles_end_lines NoMemory name single = absurd (false≢true single)
 

@@ -8,7 +8,7 @@ use Rattle.seq_words.specs.declared.kinds.Element.TheVariants as elements
 use Rattle.seq_words.specs.declared.kinds.Blocker.{Blocker}
 use Rattle.seq_words.specs.declared.kinds.Blocker.TheVariants as blockers
 use Rattle.seq_report.specs.declared.status.Status.{Status}
-use Rattle.seq_report.specs.declared.status.Status.TheVariants.{Done, Usage, Refused, Absent, MachineCheck, OutOfTurns, ShelfFault, ChronicleFault, LineFault, NoMemory}
+use Rattle.seq_report.specs.declared.status.Status.TheVariants.{Done, Usage, Refused, Absent, MachineCheck, OutOfTurns, ShelfFault, SinkFault, ChronicleFault, LineFault, NoMemory}
 use Rattle.seq_report.specs.Texts.{element_name, blocker_name, check_words, first_line, is_reported, history_line, process_lines, sent_lines}
 use Rattle.seq_report.specs.Laws.{ElementFits, BlockerFits, StatusFits, ReportsTellStatus}
 
@@ -169,11 +169,13 @@ told Usage t xs ys r _ low high e = absurd (false≢true r)
 told (Refused file place rule) t xs ys r _ low high e = absurd (false≢true r)
 told (Absent file) t xs ys r _ low high e = absurd (false≢true r)
 told ShelfFault t xs ys r _ low high e = absurd (false≢true r)
+told SinkFault t xs ys r _ low high e = absurd (false≢true r)
 told NoMemory t xs ys r _ low high e = absurd (false≢true r)
 told s Usage xs ys _ r low high e = absurd (false≢true r)
 told s (Refused file place rule) xs ys _ r low high e = absurd (false≢true r)
 told s (Absent file) xs ys _ r low high e = absurd (false≢true r)
 told s ShelfFault xs ys _ r low high e = absurd (false≢true r)
+told s SinkFault xs ys _ r low high e = absurd (false≢true r)
 told s NoMemory xs ys _ r low high e = absurd (false≢true r)
 
 pub reports_tell_status : ReportsTellStatus

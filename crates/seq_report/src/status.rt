@@ -32,6 +32,8 @@ pub enum Status {
         line: u64,
     },
     ShelfFault,
+    /// A text wasn't printed whole.
+    SinkFault,
     ChronicleFault,
     LineFault {
         line: LineNo,
@@ -51,6 +53,7 @@ pub fn number(status: &Status) -> u8
         Status::MachineCheck { .. } => 4,
         Status::OutOfTurns { .. } => 5,
         Status::ShelfFault => 6,
+        Status::SinkFault => 6,
         Status::ChronicleFault => 6,
         Status::LineFault { .. } => 7,
         Status::NoMemory => 8,

@@ -272,5 +272,6 @@ fn singles(rt: HostRuntime) -> Result<(), Fail> {
     assert!(rt; all_single(rt.alloc(), &SINGLES)?);
     let text = assembled(rt.alloc(), 33)?;
     assert_eq!(rt; text.as_slice(), b"assembled 33 bytes\n".as_slice());
+    assert_eq!(rt; number(&Status::SinkFault), 6);
     Ok(())
 }

@@ -4,8 +4,9 @@ ghost use Rattle.seq_shelf.specs.Outlets.{views, marks};
 ghost use Rattle.seq_shelf.specs.Rows.{AreFresh};
 
 use super::*;
+use crate::prints::USAGE;
 use crate::tests::{HELLO, failing_line, words_of};
-use seq_shelf::{Line, MemChronicle, MemShelf, Outlet, SoundSink, accepted};
+use seq_shelf::{Line, MemChronicle, MemShelf, MemSink, Outlet, accepted};
 use seq_words::Bytes;
 use std::test::Fail;
 
@@ -28,147 +29,222 @@ const HELLO2: &[u8] = &[
     0, 0, 0x73, 0, 0, 0, 0x41, 0x42,
 ];
 
-// The words, the text of `a.s`, the numbers of the loads and stores that fail; the status, and what `a.sqi` holds then.
+const HELLO_LISTING: &str =
+    "00000000 00000513 addi x10, x0, 0\n00000004 02000593 addi x11, x0, 32\n00000008 00100613 addi x12, x0, 1\n0000000c 00400893 addi x17, x0, 4\n00000010 00000073 ecall\n00000014 00000513 addi x10, x0, 0\n00000018 00000893 addi x17, x0, 0\n0000001c 00000073 ecall\n00000020 41 .byte 0x41\n";
+
+// The words, the text of `b.s`, the numbers of the loads and stores and of the writes that fail; the status, what `a.sqi` holds then,
+// and what is printed.
 #[derive(Clone, Copy)]
 struct Row {
     words: &'static [&'static str],
     source: &'static str,
     failing: &'static [u8],
+    writes: &'static [u8],
     status: Status,
     stored: Option<&'static [u8]>,
+    text: &'static str,
 }
 
-const ASSEMBLE: &[&str] = &["asm", "a.s", "a.sqi"];
+const ASSEMBLE: &[&str] = &["asm", "b.s", "a.sqi"];
 
-const ROWS: [Row; 16] = [
+const ROWS: [Row; 20] = [
     Row {
         words: ASSEMBLE,
         source: ADD,
         failing: &[],
+        writes: &[],
         status: Status::Done,
         stored: Some(ADD_IMAGE),
+        text: "assembled 4 bytes\n",
     },
     Row {
         words: ASSEMBLE,
         source: HELLO_SOURCE,
         failing: &[],
+        writes: &[],
         status: Status::Done,
         stored: Some(&HELLO),
+        text: "assembled 33 bytes\n",
     },
     Row {
         words: ASSEMBLE,
         source: HELLO2_SOURCE,
         failing: &[],
+        writes: &[],
         status: Status::Done,
         stored: Some(HELLO2),
+        text: "assembled 34 bytes\n",
     },
     Row {
         words: ASSEMBLE,
         source: "beq x1, x2, far\n",
         failing: &[],
+        writes: &[],
         status: Status::Refused {
             file: 0,
             place: 1,
             rule: 54,
         },
         stored: None,
+        text: "refused b.s at 1 rule 54\n",
     },
     Row {
         words: ASSEMBLE,
         source: "jal x0, 3\n",
         failing: &[],
+        writes: &[],
         status: Status::Refused {
             file: 0,
             place: 1,
             rule: 52,
         },
         stored: None,
+        text: "refused b.s at 1 rule 52\n",
     },
     Row {
-        words: &["asm", "b.s", "a.sqi"],
+        words: &["asm", "a.s", "a.sqi"],
         source: ADD,
         failing: &[],
+        writes: &[],
         status: Status::Absent { file: 0 },
         stored: None,
+        text: "absent a.s\n",
     },
     // The load is call 0, and the store call 1.
     Row {
         words: ASSEMBLE,
         source: "jal x0, 3\n",
         failing: &[0],
+        writes: &[],
         status: Status::ShelfFault,
         stored: None,
+        text: "shelf fault\n",
     },
     Row {
         words: ASSEMBLE,
         source: ADD,
         failing: &[1],
+        writes: &[],
         status: Status::ShelfFault,
         stored: None,
+        text: "shelf fault\n",
     },
     Row {
         words: ASSEMBLE,
         source: "jal x0, 3\n",
         failing: &[1],
+        writes: &[],
         status: Status::Refused {
             file: 0,
             place: 1,
             rule: 52,
         },
         stored: None,
+        text: "refused b.s at 1 rule 52\n",
     },
     Row {
         words: &["list", "hello.sqi"],
         source: ADD,
         failing: &[],
+        writes: &[],
         status: Status::Done,
         stored: None,
+        text: HELLO_LISTING,
     },
     Row {
         words: &["list", "a.sqi"],
         source: ADD,
         failing: &[],
+        writes: &[],
         status: Status::Absent { file: 0 },
         stored: None,
+        text: "absent a.sqi\n",
     },
     Row {
-        words: &["list", "a.s"],
+        words: &["list", "b.s"],
         source: "SQI2",
         failing: &[],
+        writes: &[],
         status: Status::Refused {
             file: 0,
             place: 3,
             rule: 20,
         },
         stored: None,
+        text: "refused b.s at 3 rule 20\n",
     },
     Row {
         words: &["list", "hello.sqi"],
         source: ADD,
         failing: &[0],
+        writes: &[],
         status: Status::ShelfFault,
         stored: None,
+        text: "shelf fault\n",
     },
     Row {
-        words: &["asm", "a.s"],
+        words: &["asm", "b.s"],
         source: ADD,
         failing: &[],
+        writes: &[],
         status: Status::Usage,
         stored: None,
+        text: USAGE,
     },
     Row {
         words: &["list", "hello.sqi", "a.sqi"],
         source: ADD,
         failing: &[],
+        writes: &[],
         status: Status::Usage,
         stored: None,
+        text: USAGE,
     },
     Row {
-        words: &["asm", "a.s", "-a.sqi"],
+        words: &["asm", "b.s", "-a.sqi"],
         source: ADD,
         failing: &[],
+        writes: &[],
         status: Status::Usage,
         stored: None,
+        text: USAGE,
+    },
+    Row {
+        words: &["list", "add.sqi"],
+        source: ADD,
+        failing: &[],
+        writes: &[],
+        status: Status::Done,
+        stored: None,
+        text: "00000000 00500093 addi x1, x0, 5\n",
+    },
+    // Nothing is printed, and what was stored stays.
+    Row {
+        words: ASSEMBLE,
+        source: ADD,
+        failing: &[],
+        writes: &[0],
+        status: Status::SinkFault,
+        stored: Some(ADD_IMAGE),
+        text: "",
+    },
+    Row {
+        words: &["list", "add.sqi"],
+        source: ADD,
+        failing: &[],
+        writes: &[0],
+        status: Status::SinkFault,
+        stored: None,
+        text: "",
+    },
+    Row {
+        words: &["list"],
+        source: ADD,
+        failing: &[],
+        writes: &[0],
+        status: Status::SinkFault,
+        stored: None,
+        text: "",
     },
 ];
 
@@ -183,23 +259,25 @@ fn holds(shelf: &MemShelf, name: &str, wanted: Option<&[u8]>) -> bool {
     }
 }
 
-// Gives the command of a row, and answers whether its status and its files are as wanted, and lines and chronicle as before.
+// Gives the command of a row, and answers whether its status, its files and its text are as wanted, and lines and chronicle as before.
 fn is_answered(alloc: Global, number: usize, lines: &mut Vec<Outlet>) -> Result<bool, Fail>
     requires sixteen { length lines.old.items ≡ 16 }
     requires fresh { AreFresh (views line lines.old.items) (marks lines.old.items) }
 {
-    let row = ROWS[number % 16];
+    let row = ROWS[number % 20];
     let mut shelf = MemShelf::new(alloc, Bytes::copy_of(alloc, row.failing)?);
-    shelf.put("a.s", row.source.as_bytes())?;
+    shelf.put("b.s", row.source.as_bytes())?;
     shelf.put("hello.sqi", &HELLO)?;
-    let mut sink = SoundSink::new(alloc);
+    shelf.put("add.sqi", ADD_IMAGE)?;
+    let mut sink = MemSink::new(alloc, Bytes::copy_of(alloc, row.writes)?);
     let mut chronicle = MemChronicle::new(alloc, Bytes::new(alloc));
     let words = words_of(alloc, row.words)?;
     let status = sequoia(alloc, &words, &mut shelf, lines, &mut chronicle, &mut sink);
     let kept = holds(&shelf, "a.sqi", row.stored)
-        && holds(&shelf, "a.s", Some(row.source.as_bytes()));
+        && holds(&shelf, "b.s", Some(row.source.as_bytes()));
     let still = chronicle.pairs().is_empty() && accepted(lines, 0) == 0;
-    Ok(status == row.status && kept && still)
+    let printed = sink.bytes() == row.text.as_bytes();
+    Ok(status == row.status && kept && still && printed)
 }
 
 #[test]

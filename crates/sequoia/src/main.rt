@@ -4,12 +4,12 @@
 ghost use Rattle.std.specs.Prelude.{◌≡◌, length};
 ghost use Rattle.std.specs.IoError.{error_kind};
 ghost use Rattle.std.specs.Process.{exit_status};
-ghost use Rattle.seq_cli.specs.Numbers.{number_of};
+ghost use Rattle.seq_report.specs.Numbers.{number_of};
 ghost use Rattle.sequoia.specs.Words.{unread_status};
 ghost use Rattle.seq_shelf.specs.Outlets.{views, marks};
 ghost use Rattle.seq_shelf.specs.Rows.{AreFresh};
 
-use seq_cli::{Status, add_line, number, sequoia};
+use seq_cli::{Status, add_line, number, print_usage, sequoia};
 use seq_shelf::{FileLine, FileShelf, OutSink, SoundChronicle, open_output};
 use std::alloc::{AllocError, Global};
 use std::env::Env;
@@ -69,6 +69,7 @@ fn command(rt: HostRuntime) -> Result<ExitCode, AllocError> {
     }
     let words = match read_words(&rt, alloc) {
         Ok(words) => words,
+        Err(Status::Usage) => return Ok(exit_code(&print_usage(&mut sink))),
         Err(status) => return Ok(exit_code(&status)),
     };
     let mut shelf = FileShelf::new(rt.clone()?, alloc);
@@ -95,6 +96,8 @@ fn main(rt: HostRuntime) -> ExitCode {
 mod elements;
 #[cfg(test)]
 mod images;
+#[cfg(test)]
+mod prints;
 #[cfg(test)]
 mod runs;
 #[cfg(test)]

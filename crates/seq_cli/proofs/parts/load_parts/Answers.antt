@@ -21,7 +21,8 @@ returns-in-Err-clause-err g c = λ m told.
       desc = c.loop-n.desc;
       loaded = c.loop-n.invariant.loaded m told;
       named = c.in-Err.ensures.named;
-      stops = subst (λ k. LoadStops c.in-Err.status c.loop-n.files (part_fault c.loop-n.desc k) (m c.part_name-name.result.now)) at (c.in-Err.ensures.err m (c.loop-n.invariant.told ∙ told));
+      stops = subst (λ k. LoadStops c.in-Err.answer.status c.loop-n.files (part_fault c.loop-n.desc k) (m c.part_name-name.result.now)) at (c.in-Err.ensures.err m (c.loop-n.invariant.told ∙ told));
+      line = c.in-Err.ensures.line;
     }
 
 pub loop-n-preserved : goal.loop-n-preserved
@@ -50,3 +51,6 @@ returns-clause-ok g c = λ m told.
     let names : List (List ℕ) = c.args.draft.images ++ c.args.draft.firsts in
     let all : length names ≤ c.loop-n.n = omega (arith, length-append c.args.draft.images c.args.draft.firsts, c.loop-n-test.false, c.len.ensures, c.len-2.ensures) in
     parts_all m names c.args.files.now c.loop-n.n c.args.draft.desc c.loop-n.files c.loop-n.desc all (c.loop-n.invariant.loaded m told)
+
+pub returns-in-Err-clause-line : goal.returns-in-Err-clause-line
+returns-in-Err-clause-line g c = (c.part_name-name.result.now, c.in-Err.ensures.line)
