@@ -1,0 +1,5 @@
+# Jumps to itself, for ever.
+
+.size 32
+
+jal x0, 0
