@@ -265,18 +265,20 @@ fn is_answered(alloc: Global, number: usize, lines: &mut Vec<Outlet>) -> Result<
     requires fresh { AreFresh (views line lines.old.items) (marks lines.old.items) }
 {
     let row = ROWS[number % 20];
+    let source = row.source.as_bytes();
+    let text = row.text.as_bytes();
     let mut shelf = MemShelf::new(alloc, Bytes::copy_of(alloc, row.failing)?);
-    shelf.put("b.s", row.source.as_bytes())?;
+    shelf.put("b.s", source)?;
     shelf.put("hello.sqi", &HELLO)?;
     shelf.put("add.sqi", ADD_IMAGE)?;
     let mut sink = MemSink::new(alloc, Bytes::copy_of(alloc, row.writes)?);
     let mut chronicle = MemChronicle::new(alloc, Bytes::new(alloc));
     let words = words_of(alloc, row.words)?;
     let status = sequoia(alloc, &words, &mut shelf, lines, &mut chronicle, &mut sink);
-    let kept = holds(&shelf, "a.sqi", row.stored)
-        && holds(&shelf, "b.s", Some(row.source.as_bytes()));
-    let still = chronicle.pairs().is_empty() && accepted(lines, 0) == 0;
-    let printed = sink.bytes() == row.text.as_bytes();
+    let sent = accepted(lines, 0);
+    let kept = holds(&shelf, "a.sqi", row.stored) && holds(&shelf, "b.s", Some(source));
+    let still = chronicle.pairs().is_empty() && sent == 0;
+    let printed = sink.bytes() == text;
     Ok(status == row.status && kept && still && printed)
 }
 
