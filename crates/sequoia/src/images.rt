@@ -259,27 +259,44 @@ fn holds(shelf: &MemShelf, name: &str, wanted: Option<&[u8]>) -> bool {
     }
 }
 
-// Gives the command of a row, and answers whether its status, its files and its text are as wanted, and lines and chronicle as before.
+fn row_of(number: usize) -> Option<Row> {
+    ROWS.get(number).copied()
+}
+
+// The files that a command of a row finds.
+fn shelf_of(alloc: Global, row: &Row) -> Result<MemShelf, Fail> {
+    let mut shelf = MemShelf::new(alloc, Bytes::copy_of(alloc, row.failing)?);
+    shelf.put("b.s", row.source.as_bytes())?;
+    shelf.put("hello.sqi", &HELLO)?;
+    shelf.put("add.sqi", ADD_IMAGE)?;
+    Ok(shelf)
+}
+
+// Whether the source is as it was, and the image as wanted.
+fn has_files(shelf: &MemShelf, row: &Row) -> bool {
+    holds(shelf, "a.sqi", row.stored) && holds(shelf, "b.s", Some(row.source.as_bytes()))
+}
+
+// Gives the command of a row: whether its status, its text and its files are as wanted, and lines and chronicle as before.
 fn is_answered(alloc: Global, number: usize, lines: &mut Vec<Outlet>) -> Result<bool, Fail>
     requires sixteen { length lines.old.items ≡ 16 }
     requires fresh { AreFresh (views line lines.old.items) (marks lines.old.items) }
 {
-    let row = ROWS[number % 20];
-    let source = row.source.as_bytes();
-    let text = row.text.as_bytes();
-    let mut shelf = MemShelf::new(alloc, Bytes::copy_of(alloc, row.failing)?);
-    shelf.put("b.s", source)?;
-    shelf.put("hello.sqi", &HELLO)?;
-    shelf.put("add.sqi", ADD_IMAGE)?;
+    let Some(row) = row_of(number) else {
+        return Ok(false);
+    };
+    let mut shelf = shelf_of(alloc, &row)?;
     let mut sink = MemSink::new(alloc, Bytes::copy_of(alloc, row.writes)?);
     let mut chronicle = MemChronicle::new(alloc, Bytes::new(alloc));
     let words = words_of(alloc, row.words)?;
     let status = sequoia(alloc, &words, &mut shelf, lines, &mut chronicle, &mut sink);
-    let sent = accepted(lines, 0);
-    let kept = holds(&shelf, "a.sqi", row.stored) && holds(&shelf, "b.s", Some(source));
-    let still = chronicle.pairs().is_empty() && sent == 0;
-    let printed = sink.bytes() == text;
-    Ok(status == row.status && kept && still && printed)
+    Ok(
+        status == row.status
+            && accepted(lines, 0) == 0
+            && sink.bytes() == row.text.as_bytes()
+            && chronicle.pairs().is_empty()
+            && has_files(&shelf, &row),
+    )
 }
 
 #[test]
