@@ -1,13 +1,14 @@
 //! From words to instructions.
-ghost use Rattle.std.specs.Prelude.{◌≡◌, ℕ, ◌+◌, ◌*◌, ◌/◌, ◌%◌, ◌^◌, ◌<◌, ◌≤◌, ◌↔◌, IfSome, IsNone, Some, None};
-ghost use Rattle.seq_isa.specs.Table.{StandsFor, sign_extended, i_immediate, s_immediate, b_immediate, j_immediate};
+ghost use Rattle.std.specs.Prelude.{◌≡◌, ℕ, ◌+◌, ◌*◌, ◌/◌, ◌%◌, ◌^◌, ◌<◌, ◌≤◌, ◌↔◌, IfSome, IsNone, Some, None, ◌==◌, ◌||◌, if◌then◌else◌};
+ghost use Rattle.seq_isa.specs.Table.{StandsFor, rd_of, funct3_of, rs1_of, rs2_of, funct7_of, sign_extended, i_immediate, s_immediate, b_immediate, j_immediate};
 ghost use Rattle.seq_isa.specs.InRange.{InRange};
 ghost use Rattle.seq_isa.specs.Decoded.{branch_of, load_of, store_of, immediate_of, shift_of, base_of, alternate_of, multiply_of, register_of, system_of, decode_of};
 
 use crate::Instr;
-use crate::fields::{Fields, split};
+use crate::fields::{funct3, funct7, opcode, rd, rs1, rs2};
 use crate::opcodes::{AUIPC, BRANCH, JAL, JALR, LOAD, LUI, MISC_MEM, OP, OP_IMM, STORE, SYSTEM};
 
+#[inline(always)]
 fn sign_extend_12(bits: u32) -> i32
     requires { bits < 4096 }
     ensures { result ≡ sign_extended 12 bits }
@@ -19,6 +20,7 @@ fn sign_extend_12(bits: u32) -> i32
     }
 }
 
+#[inline(always)]
 fn sign_extend_13(bits: u32) -> i32
     requires { bits < 8192 }
     ensures { result ≡ sign_extended 13 bits }
@@ -30,6 +32,7 @@ fn sign_extend_13(bits: u32) -> i32
     }
 }
 
+#[inline(always)]
 fn sign_extend_21(bits: u32) -> i32
     requires { bits < 2097152 }
     ensures { result ≡ sign_extended 21 bits }
@@ -41,18 +44,21 @@ fn sign_extend_21(bits: u32) -> i32
     }
 }
 
+#[inline(always)]
 fn i_immediate(word: u32) -> i32
     ensures { result ≡ i_immediate word }
 {
     sign_extend_12(word >> 20)
 }
 
+#[inline(always)]
 fn s_immediate(word: u32) -> i32
     ensures { result ≡ s_immediate word }
 {
     sign_extend_12((word >> 7) & 31 | (word >> 25) << 5)
 }
 
+#[inline(always)]
 fn b_immediate(word: u32) -> i32
     ensures { result ≡ b_immediate word }
 {
@@ -62,6 +68,7 @@ fn b_immediate(word: u32) -> i32
     sign_extend_13(low | middle | high | (word >> 31) << 12)
 }
 
+#[inline(always)]
 fn j_immediate(word: u32) -> i32
     ensures { result ≡ j_immediate word }
 {
@@ -72,6 +79,7 @@ fn j_immediate(word: u32) -> i32
 }
 
 #[tactic(auto, unfolding(crate::specs::Decoded::branch_of))]
+#[inline(always)]
 fn branch(funct3: u8, rs1: u8, rs2: u8, offset: i32) -> Option<Instr>
     ensures { result ≡ branch_of funct3 rs1 rs2 offset }
 {
@@ -87,6 +95,7 @@ fn branch(funct3: u8, rs1: u8, rs2: u8, offset: i32) -> Option<Instr>
 }
 
 #[tactic(auto, unfolding(crate::specs::Decoded::load_of))]
+#[inline(always)]
 fn load(funct3: u8, rd: u8, rs1: u8, imm: i32) -> Option<Instr>
     ensures { result ≡ load_of funct3 rd rs1 imm }
 {
@@ -101,6 +110,7 @@ fn load(funct3: u8, rd: u8, rs1: u8, imm: i32) -> Option<Instr>
 }
 
 #[tactic(auto, unfolding(crate::specs::Decoded::store_of))]
+#[inline(always)]
 fn store(funct3: u8, rs1: u8, rs2: u8, imm: i32) -> Option<Instr>
     ensures { result ≡ store_of funct3 rs1 rs2 imm }
 {
@@ -113,6 +123,7 @@ fn store(funct3: u8, rs1: u8, rs2: u8, imm: i32) -> Option<Instr>
 }
 
 #[tactic(auto, unfolding(crate::specs::Decoded::immediate_of))]
+#[inline(always)]
 fn immediate(funct3: u8, rd: u8, rs1: u8, imm: i32) -> Option<Instr>
     ensures { result ≡ immediate_of funct3 rd rs1 imm }
 {
@@ -128,6 +139,7 @@ fn immediate(funct3: u8, rd: u8, rs1: u8, imm: i32) -> Option<Instr>
 }
 
 #[tactic(auto, unfolding(crate::specs::Decoded::shift_of))]
+#[inline(always)]
 fn shift(funct3: u8, funct7: u8, rd: u8, rs1: u8, amount: u8) -> Option<Instr>
     ensures { result ≡ shift_of funct3 funct7 rd rs1 amount }
 {
@@ -140,6 +152,7 @@ fn shift(funct3: u8, funct7: u8, rd: u8, rs1: u8, amount: u8) -> Option<Instr>
 }
 
 #[tactic(auto, unfolding(crate::specs::Decoded::base_of))]
+#[inline(always)]
 fn base(funct3: u8, rd: u8, rs1: u8, rs2: u8) -> Option<Instr>
     ensures { result ≡ base_of funct3 rd rs1 rs2 }
 {
@@ -157,6 +170,7 @@ fn base(funct3: u8, rd: u8, rs1: u8, rs2: u8) -> Option<Instr>
 }
 
 #[tactic(auto, unfolding(crate::specs::Decoded::alternate_of))]
+#[inline(always)]
 fn alternate(funct3: u8, rd: u8, rs1: u8, rs2: u8) -> Option<Instr>
     ensures { result ≡ alternate_of funct3 rd rs1 rs2 }
 {
@@ -168,6 +182,7 @@ fn alternate(funct3: u8, rd: u8, rs1: u8, rs2: u8) -> Option<Instr>
 }
 
 #[tactic(auto, unfolding(crate::specs::Decoded::multiply_of))]
+#[inline(always)]
 fn multiply(funct3: u8, rd: u8, rs1: u8, rs2: u8) -> Option<Instr>
     ensures { result ≡ multiply_of funct3 rd rs1 rs2 }
 {
@@ -185,6 +200,7 @@ fn multiply(funct3: u8, rd: u8, rs1: u8, rs2: u8) -> Option<Instr>
 }
 
 #[tactic(auto, unfolding(crate::specs::Decoded::register_of))]
+#[inline(always)]
 fn register(funct3: u8, funct7: u8, rd: u8, rs1: u8, rs2: u8) -> Option<Instr>
     ensures { result ≡ register_of funct3 funct7 rd rs1 rs2 }
 {
@@ -197,6 +213,7 @@ fn register(funct3: u8, funct7: u8, rd: u8, rs1: u8, rs2: u8) -> Option<Instr>
 }
 
 #[tactic(auto, unfolding(crate::specs::Decoded::system_of))]
+#[inline(always)]
 fn system(word: u32) -> Option<Instr>
     ensures { result ≡ system_of word }
 {
@@ -207,45 +224,46 @@ fn system(word: u32) -> Option<Instr>
     }
 }
 
+// An operation on a register and an immediate: a shift, or another.
+#[inline(always)]
+fn with_immediate(word: u32) -> Option<Instr>
+    ensures { result ≡ (if (funct3_of word == 0b001) || (funct3_of word == 0b101) then shift_of (funct3_of word) (funct7_of word) (rd_of word) (rs1_of word) (rs2_of word) else immediate_of (funct3_of word) (rd_of word) (rs1_of word) (i_immediate word)) }
+{
+    match funct3(word) {
+        funct3 @ (0b001 | 0b101) => shift(funct3, funct7(word), rd(word), rs1(word), rs2(word)),
+        funct3 => immediate(funct3, rd(word), rs1(word), i_immediate(word)),
+    }
+}
+
 #[tactic(auto, unfolding(crate::specs::Decoded::decode_of))]
+#[inline(always)]
 fn row(word: u32) -> Option<Instr>
     ensures { result ≡ decode_of word }
 {
-    let Fields {
-        opcode,
-        rd,
-        funct3,
-        rs1,
-        rs2,
-        funct7,
-    } = split(word);
-    match opcode {
+    match opcode(word) {
         LUI => Some(Instr::Lui {
-            rd,
+            rd: rd(word),
             imm: word >> 12,
         }),
         AUIPC => Some(Instr::Auipc {
-            rd,
+            rd: rd(word),
             imm: word >> 12,
         }),
         JAL => Some(Instr::Jal {
-            rd,
+            rd: rd(word),
             offset: j_immediate(word),
         }),
-        JALR if funct3 == 0b000 => Some(Instr::Jalr {
-            rd,
-            rs1,
+        JALR if funct3(word) == 0b000 => Some(Instr::Jalr {
+            rd: rd(word),
+            rs1: rs1(word),
             imm: i_immediate(word),
         }),
-        BRANCH => branch(funct3, rs1, rs2, b_immediate(word)),
-        LOAD => load(funct3, rd, rs1, i_immediate(word)),
-        STORE => store(funct3, rs1, rs2, s_immediate(word)),
-        OP_IMM => match funct3 {
-            0b001 | 0b101 => shift(funct3, funct7, rd, rs1, rs2),
-            _ => immediate(funct3, rd, rs1, i_immediate(word)),
-        },
-        OP => register(funct3, funct7, rd, rs1, rs2),
-        MISC_MEM if funct3 == 0b000 => Some(Instr::Fence { word }),
+        BRANCH => branch(funct3(word), rs1(word), rs2(word), b_immediate(word)),
+        LOAD => load(funct3(word), rd(word), rs1(word), i_immediate(word)),
+        STORE => store(funct3(word), rs1(word), rs2(word), s_immediate(word)),
+        OP_IMM => with_immediate(word),
+        OP => register(funct3(word), funct7(word), rd(word), rs1(word), rs2(word)),
+        MISC_MEM if funct3(word) == 0b000 => Some(Instr::Fence { word }),
         SYSTEM => system(word),
         _ => None,
     }
@@ -253,6 +271,7 @@ fn row(word: u32) -> Option<Instr>
 
 /// The instruction that `word` stands for, or None where it stands for none.
 #[tactic(auto, using(crate::proofs::Agreed::found_from_decode_of, crate::proofs::Agreed::none_from_decode_of))]
+#[inline(always)]
 pub fn decode(word: u32) -> Option<Instr>
     ensures value { result ≡ decode_of word }
     ensures found { IfSome result (StandsFor word) }

@@ -13,23 +13,54 @@ pub struct Fields {
     pub funct7: u8,
 }
 
-/// The fields of `word`.
-pub fn split(word: u32) -> Fields
-    ensures opcode { result.opcode ≡ opcode_of word }
-    ensures rd { result.rd ≡ rd_of word }
-    ensures funct3 { result.funct3 ≡ funct3_of word }
-    ensures rs1 { result.rs1 ≡ rs1_of word }
-    ensures rs2 { result.rs2 ≡ rs2_of word }
-    ensures funct7 { result.funct7 ≡ funct7_of word }
+/// The major opcode, of a word in a format that has it.
+#[inline(always)]
+pub fn opcode(word: u32) -> u8
+    ensures { result ≡ opcode_of word }
 {
-    Fields {
-        opcode: (word & 127) as u8,
-        rd: ((word >> 7) & 31) as u8,
-        funct3: ((word >> 12) & 7) as u8,
-        rs1: ((word >> 15) & 31) as u8,
-        rs2: ((word >> 20) & 31) as u8,
-        funct7: (word >> 25) as u8,
-    }
+    (word & 127) as u8
+}
+
+/// The register that is written, of a word in a format that has it.
+#[inline(always)]
+pub fn rd(word: u32) -> u8
+    ensures { result ≡ rd_of word }
+{
+    ((word >> 7) & 31) as u8
+}
+
+/// The minor opcode of three bits, of a word in a format that has it.
+#[inline(always)]
+pub fn funct3(word: u32) -> u8
+    ensures { result ≡ funct3_of word }
+{
+    ((word >> 12) & 7) as u8
+}
+
+/// The first register that is read, of a word in a format that has it.
+#[inline(always)]
+pub fn rs1(word: u32) -> u8
+    ensures value { result ≡ rs1_of word }
+    ensures bound { result < 32 }
+{
+    ((word >> 15) & 31) as u8
+}
+
+/// The second register that is read, of a word in a format that has it.
+#[inline(always)]
+pub fn rs2(word: u32) -> u8
+    ensures value { result ≡ rs2_of word }
+    ensures bound { result < 32 }
+{
+    ((word >> 20) & 31) as u8
+}
+
+/// The minor opcode of seven bits, of a word in a format that has it.
+#[inline(always)]
+pub fn funct7(word: u32) -> u8
+    ensures { result ≡ funct7_of word }
+{
+    (word >> 25) as u8
 }
 
 /// The word with these fields.

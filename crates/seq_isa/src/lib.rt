@@ -10,6 +10,7 @@ mod opcodes;
 
 pub use decoding::decode;
 pub use encoding::encode;
+pub use fields::{rs1, rs2};
 pub use instr::Instr;
 pub use laws::{
     decode_encoded, encode_decoded, listing_is_function, one_instruction_a_word,
