@@ -84,6 +84,7 @@ impl Pair {
 
     /// Both halves take the instruction at pc, if they agree on it: ECALL, a trap and a store for which the port has no room
     /// change nothing. Where the pcs differ, nothing is fetched. Where the pcs or the effects differ, nothing changes.
+    #[inline(always)]
     pub fn turn<P: Port>(&mut self, port: &mut P) -> Turn
         requires { IsAligned self.old.struck self.old.a self.old.b }
         ensures value { result ≡ turn_of (P.admission port.old) (P.bytes port.old) self.old }

@@ -1,7 +1,10 @@
 -- Which registers each instruction reads.
-use Rattle.std.proofs.Common.{◌≡◌, ℕ, ◌+◌, ◌-◌, ◌*◌, ◌/◌, ◌%◌, ◌^◌, Bool, true, false, if◌then◌else◌, ◌==◌, ℤ, Option, Some, None, refl, ap, not, ◌*ℤ◌, pos, int_lt, nat_lt, bit_and, bit_or, bit_xor}
+use Rattle.std.proofs.Common.{◌≡◌, ℕ, ◌+◌, ◌-◌, ◌*◌, ◌/◌, ◌%◌, ◌^◌, Bool, true, false, if◌then◌else◌, ◌==◌, ℤ, Option, Some, None, IfSome, refl, ap, not, ◌*ℤ◌, pos, int_lt, nat_lt, bit_and, bit_or, bit_xor}
 use Rattle.seq_words.specs.declared.regs.Regs.{Regs}
-use Rattle.seq_isa.specs.Meaning.{Bytes, Outcome, register, signed, unsigned, address, number_at, gives, jumps, branches, loaded, loads, put, stores, outcome_of, extended, same, flag, upper, shifted_left, shifted_right, shifted_signed, quotient, quotient_unsigned, remainder, remainder_unsigned}
+use Rattle.seq_isa.specs.Table.{StandsFor, rs1_of, rs2_of}
+use Rattle.seq_isa.specs.Decoded.{decode_of}
+use Rattle.seq_isa.proofs.Agreed.{found_from_decode_of}
+use Rattle.seq_isa.specs.Meaning.{Bytes, Outcome, outcome_if, register, signed, unsigned, address, number_at, gives, jumps, branches, loaded, loads, put, stores, outcome_of, extended, same, flag, upper, shifted_left, shifted_right, shifted_signed, quotient, quotient_unsigned, remainder, remainder_unsigned}
 use Rattle.seq_isa.specs.declared.instr.Instr.{Instr}
 use Rattle.seq_isa.specs.declared.instr.Instr.TheVariants.{Lui, Auipc, Jal, Jalr, Beq, Bne, Blt, Bge, Bltu, Bgeu, Lb, Lh, Lw, Lbu, Lhu, Sb, Sh, Sw, Addi, Slti, Sltiu, Xori, Ori, Andi, Slli, Srli, Srai, Add, Sub, Sll, Slt, Sltu, Xor, Srl, Sra, Or, And, Mul, Mulh, Mulhsu, Mulhu, Div, Divu, Rem, Remu, Fence, Ecall, Ebreak}
 use Rattle.seq_rv32.specs.Sources.{HoldAlike, sources_of, ReadsOnly, InstructionsReadSources}
@@ -113,5 +116,74 @@ reads_only Ecall = record { alike = λ a b bytes h. refl }
 reads_only Ebreak = record { alike = λ a b bytes h. refl }
 
 -- so two register sets that hold the same in these have one outcome
-pub outcomes_alike : (i : Instr) (a b : Regs) → HoldAlike a b (sources_of i).0 (sources_of i).1 → (bytes : Bytes) → outcome_of a bytes i ≡ outcome_of b bytes i
+outcomes_alike : (i : Instr) (a b : Regs) → HoldAlike a b (sources_of i).0 (sources_of i).1 → (bytes : Bytes) → outcome_of a bytes i ≡ outcome_of b bytes i
 outcomes_alike i a b h bytes = (reads_only i).alike a b bytes h
+
+-- registers that hold the same in two registers do so in none of them, in the first alone and in both
+no_source : (a b : Regs) → a.pc ≡ b.pc → HoldAlike a b 0 0
+no_source a b pc = record { pc = pc; first = refl; second = refl }
+
+one_source : (a b : Regs) (rs1 i j : ℕ) → rs1 ≡ i → HoldAlike a b i j → HoldAlike a b rs1 0
+one_source a b rs1 i j e h = record { pc = h.pc; first = rw e h.first; second = refl }
+
+two_sources : (a b : Regs) (rs1 rs2 i j : ℕ) → rs1 ≡ i → rs2 ≡ j → HoldAlike a b i j → HoldAlike a b rs1 rs2
+two_sources a b rs1 rs2 i j e f h = record { pc = h.pc; first = rw e h.first; second = rw f h.second }
+
+-- the registers that an instruction reads are among those that its word names
+names_sources : (w : ℕ) (i : Instr) (a b : Regs) → StandsFor w i → HoldAlike a b (rs1_of w) (rs2_of w) → HoldAlike a b (sources_of i).0 (sources_of i).1
+names_sources w (Lui rd imm) a b s h = no_source a b h.pc
+names_sources w (Auipc rd imm) a b s h = no_source a b h.pc
+names_sources w (Jal rd imm) a b s h = no_source a b h.pc
+names_sources w (Jalr rd rs1 imm) a b s h = one_source a b _ _ _ s.rs1_is h
+names_sources w (Beq rs1 rs2 offset) a b s h = two_sources a b _ _ _ _ s.rs1_is s.rs2_is h
+names_sources w (Bne rs1 rs2 offset) a b s h = two_sources a b _ _ _ _ s.rs1_is s.rs2_is h
+names_sources w (Blt rs1 rs2 offset) a b s h = two_sources a b _ _ _ _ s.rs1_is s.rs2_is h
+names_sources w (Bge rs1 rs2 offset) a b s h = two_sources a b _ _ _ _ s.rs1_is s.rs2_is h
+names_sources w (Bltu rs1 rs2 offset) a b s h = two_sources a b _ _ _ _ s.rs1_is s.rs2_is h
+names_sources w (Bgeu rs1 rs2 offset) a b s h = two_sources a b _ _ _ _ s.rs1_is s.rs2_is h
+names_sources w (Lb rd rs1 imm) a b s h = one_source a b _ _ _ s.rs1_is h
+names_sources w (Lh rd rs1 imm) a b s h = one_source a b _ _ _ s.rs1_is h
+names_sources w (Lw rd rs1 imm) a b s h = one_source a b _ _ _ s.rs1_is h
+names_sources w (Lbu rd rs1 imm) a b s h = one_source a b _ _ _ s.rs1_is h
+names_sources w (Lhu rd rs1 imm) a b s h = one_source a b _ _ _ s.rs1_is h
+names_sources w (Sb rs1 rs2 imm) a b s h = two_sources a b _ _ _ _ s.rs1_is s.rs2_is h
+names_sources w (Sh rs1 rs2 imm) a b s h = two_sources a b _ _ _ _ s.rs1_is s.rs2_is h
+names_sources w (Sw rs1 rs2 imm) a b s h = two_sources a b _ _ _ _ s.rs1_is s.rs2_is h
+names_sources w (Addi rd rs1 imm) a b s h = one_source a b _ _ _ s.rs1_is h
+names_sources w (Slti rd rs1 imm) a b s h = one_source a b _ _ _ s.rs1_is h
+names_sources w (Sltiu rd rs1 imm) a b s h = one_source a b _ _ _ s.rs1_is h
+names_sources w (Xori rd rs1 imm) a b s h = one_source a b _ _ _ s.rs1_is h
+names_sources w (Ori rd rs1 imm) a b s h = one_source a b _ _ _ s.rs1_is h
+names_sources w (Andi rd rs1 imm) a b s h = one_source a b _ _ _ s.rs1_is h
+names_sources w (Slli rd rs1 imm) a b s h = one_source a b _ _ _ s.rs1_is h
+names_sources w (Srli rd rs1 imm) a b s h = one_source a b _ _ _ s.rs1_is h
+names_sources w (Srai rd rs1 imm) a b s h = one_source a b _ _ _ s.rs1_is h
+names_sources w (Add rd rs1 rs2) a b s h = two_sources a b _ _ _ _ s.rs1_is s.rs2_is h
+names_sources w (Sub rd rs1 rs2) a b s h = two_sources a b _ _ _ _ s.rs1_is s.rs2_is h
+names_sources w (Sll rd rs1 rs2) a b s h = two_sources a b _ _ _ _ s.rs1_is s.rs2_is h
+names_sources w (Slt rd rs1 rs2) a b s h = two_sources a b _ _ _ _ s.rs1_is s.rs2_is h
+names_sources w (Sltu rd rs1 rs2) a b s h = two_sources a b _ _ _ _ s.rs1_is s.rs2_is h
+names_sources w (Xor rd rs1 rs2) a b s h = two_sources a b _ _ _ _ s.rs1_is s.rs2_is h
+names_sources w (Srl rd rs1 rs2) a b s h = two_sources a b _ _ _ _ s.rs1_is s.rs2_is h
+names_sources w (Sra rd rs1 rs2) a b s h = two_sources a b _ _ _ _ s.rs1_is s.rs2_is h
+names_sources w (Or rd rs1 rs2) a b s h = two_sources a b _ _ _ _ s.rs1_is s.rs2_is h
+names_sources w (And rd rs1 rs2) a b s h = two_sources a b _ _ _ _ s.rs1_is s.rs2_is h
+names_sources w (Mul rd rs1 rs2) a b s h = two_sources a b _ _ _ _ s.rs1_is s.rs2_is h
+names_sources w (Mulh rd rs1 rs2) a b s h = two_sources a b _ _ _ _ s.rs1_is s.rs2_is h
+names_sources w (Mulhsu rd rs1 rs2) a b s h = two_sources a b _ _ _ _ s.rs1_is s.rs2_is h
+names_sources w (Mulhu rd rs1 rs2) a b s h = two_sources a b _ _ _ _ s.rs1_is s.rs2_is h
+names_sources w (Div rd rs1 rs2) a b s h = two_sources a b _ _ _ _ s.rs1_is s.rs2_is h
+names_sources w (Divu rd rs1 rs2) a b s h = two_sources a b _ _ _ _ s.rs1_is s.rs2_is h
+names_sources w (Rem rd rs1 rs2) a b s h = two_sources a b _ _ _ _ s.rs1_is s.rs2_is h
+names_sources w (Remu rd rs1 rs2) a b s h = two_sources a b _ _ _ _ s.rs1_is s.rs2_is h
+names_sources w (Fence word) a b s h = no_source a b h.pc
+names_sources w Ecall a b s h = no_source a b h.pc
+names_sources w Ebreak a b s h = no_source a b h.pc
+
+word_alike : (w : ℕ) (a b : Regs) (bytes : Bytes) (o : Option Instr) → IfSome o (StandsFor w) → HoldAlike a b (rs1_of w) (rs2_of w) → outcome_if a bytes o ≡ outcome_if b bytes o
+word_alike w a b bytes (Some i) s h = outcomes_alike i a b (names_sources w i a b s h) bytes
+word_alike w a b bytes None s h = refl
+
+-- so two register sets that hold the same in the registers that a word names have one outcome of it
+pub words_alike : (w : ℕ) (a b : Regs) → HoldAlike a b (rs1_of w) (rs2_of w) → (bytes : Bytes) → outcome_if a bytes (decode_of w) ≡ outcome_if b bytes (decode_of w)
+words_alike w a b h bytes = word_alike w a b bytes (decode_of w) (found_from_decode_of w (decode_of w) refl) h

@@ -3,6 +3,7 @@ ghost use Rattle.std.specs.Prelude.{◌≡◌, ℕ, ◌*◌, ◌/◌, ◌^◌, �
 ghost use Rattle.seq_isa.specs.Meaning.{signed, upper, quotient, remainder, quotient_unsigned, remainder_unsigned, shifted_signed, flag};
 
 /// Whether a number is below another, both signed.
+#[inline(always)]
 pub fn is_less(a: u32, b: u32) -> bool
     ensures { result ≡ int_lt (signed a) (signed b) }
 {
@@ -10,6 +11,7 @@ pub fn is_less(a: u32, b: u32) -> bool
 }
 
 /// 1 where a test holds.
+#[inline(always)]
 pub fn flag(test: bool) -> u32
     ensures { result ≡ flag test }
 {
@@ -17,6 +19,7 @@ pub fn flag(test: bool) -> u32
 }
 
 /// The product of two signed numbers, in twice their bits.
+#[inline(always)]
 fn product(a: i32, b: i32) -> i64
     ensures { result ≡ a *ℤ b }
 {
@@ -24,6 +27,7 @@ fn product(a: i32, b: i32) -> i64
 }
 
 /// MULH: the upper 32 bits of the product of two signed numbers.
+#[inline(always)]
 pub fn multiply_high(a: u32, b: u32) -> u32
     ensures { result ≡ upper (signed a *ℤ signed b) }
 {
@@ -32,6 +36,7 @@ pub fn multiply_high(a: u32, b: u32) -> u32
 }
 
 /// MULHSU: the upper 32 bits of the product of a signed number `a` and an unsigned one `b`.
+#[inline(always)]
 pub fn multiply_high_mixed(a: u32, b: u32) -> u32
     ensures { result ≡ upper (signed a *ℤ pos b) }
 {
@@ -40,6 +45,7 @@ pub fn multiply_high_mixed(a: u32, b: u32) -> u32
 }
 
 /// MULHU: the upper 32 bits of the product of two unsigned numbers.
+#[inline(always)]
 pub fn multiply_high_unsigned(a: u32, b: u32) -> u32
     ensures { result ≡ a * b / 2 ^ 32 }
 {
@@ -48,6 +54,7 @@ pub fn multiply_high_unsigned(a: u32, b: u32) -> u32
 
 /// DIV: the quotient of two signed numbers, rounded towards zero.
 #[tactic(auto, unfolding(seq_isa::specs::Meaning::quotient))]
+#[inline(always)]
 pub fn divide(a: u32, b: u32) -> u32
     ensures { result ≡ quotient a b }
 {
@@ -61,6 +68,7 @@ pub fn divide(a: u32, b: u32) -> u32
 
 /// REM: the remainder of two signed numbers, with the sign of the dividend.
 #[tactic(auto, unfolding(seq_isa::specs::Meaning::remainder))]
+#[inline(always)]
 pub fn remainder(a: u32, b: u32) -> u32
     ensures { result ≡ remainder a b }
 {
@@ -74,6 +82,7 @@ pub fn remainder(a: u32, b: u32) -> u32
 
 /// DIVU: the quotient of two unsigned numbers.
 #[tactic(auto, unfolding(seq_isa::specs::Meaning::quotient_unsigned))]
+#[inline(always)]
 pub fn divide_unsigned(a: u32, b: u32) -> u32
     ensures { result ≡ quotient_unsigned a b }
 {
@@ -82,6 +91,7 @@ pub fn divide_unsigned(a: u32, b: u32) -> u32
 
 /// REMU: the remainder of two unsigned numbers.
 #[tactic(auto, unfolding(seq_isa::specs::Meaning::remainder_unsigned))]
+#[inline(always)]
 pub fn remainder_unsigned(a: u32, b: u32) -> u32
     ensures { result ≡ remainder_unsigned a b }
 {
@@ -89,6 +99,7 @@ pub fn remainder_unsigned(a: u32, b: u32) -> u32
 }
 
 /// SRA: a shift to the right by `amount`, in which copies of the sign bit come in.
+#[inline(always)]
 pub fn shift_signed(a: u32, amount: u32) -> u32
     requires { amount < 32 }
     ensures { result ≡ shifted_signed a amount }

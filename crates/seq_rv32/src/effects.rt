@@ -27,6 +27,7 @@ pub enum Effect {
 }
 
 /// What a register holds; x0 holds 0.
+#[inline(always)]
 pub fn read(regs: &Regs, r: u8) -> u32
     requires { r < 32 }
     ensures { result ≡ register regs.now r }
@@ -35,6 +36,7 @@ pub fn read(regs: &Regs, r: u8) -> u32
 }
 
 /// The address of a load, a store or a jump.
+#[inline(always)]
 pub fn address(regs: &Regs, rs1: u8, imm: i32) -> u32
     requires { rs1 < 32 }
     ensures { result ≡ address regs.now rs1 imm }
@@ -43,6 +45,7 @@ pub fn address(regs: &Regs, rs1: u8, imm: i32) -> u32
 }
 
 /// The address of the next instruction.
+#[inline(always)]
 fn following(regs: &Regs) -> u32
     ensures { result ≡ following regs.now }
 {
@@ -50,6 +53,7 @@ fn following(regs: &Regs) -> u32
 }
 
 /// The register `rd` with its value, or None for x0.
+#[inline(always)]
 fn written(rd: u8, value: u32) -> Option<(u8, u32)>
     requires { rd < 32 }
     ensures value { result ≡ written rd value }
@@ -60,6 +64,7 @@ fn written(rd: u8, value: u32) -> Option<(u8, u32)>
 
 /// A register gets a value, and the next instruction follows.
 #[tactic(auto, unfolding(seq_isa::specs::Meaning::gives))]
+#[inline(always)]
 pub fn gives(regs: &Regs, rd: u8, value: u32) -> Effect
     requires { rd < 32 }
     ensures value { (admission : _) → result ≡ effect_of admission (gives regs.now rd value) }
@@ -75,6 +80,7 @@ pub fn gives(regs: &Regs, rd: u8, value: u32) -> Effect
 
 /// A jump, which writes the address of the next instruction to `rd`.
 #[tactic(auto, unfolding(seq_isa::specs::Meaning::jumps))]
+#[inline(always)]
 pub fn jumps(regs: &Regs, rd: u8, target: u32) -> Effect
     requires { rd < 32 }
     ensures value { (admission : _) → result ≡ effect_of admission (jumps regs.now rd target) }
@@ -94,6 +100,7 @@ pub fn jumps(regs: &Regs, rd: u8, target: u32) -> Effect
 
 /// A branch.
 #[tactic(auto, unfolding(seq_isa::specs::Meaning::branches))]
+#[inline(always)]
 pub fn branches(regs: &Regs, taken: bool, offset: i32) -> Effect
     ensures value { (admission : _) → result ≡ effect_of admission (branches regs.now taken offset) }
     ensures register { NamesRegister result }
@@ -129,6 +136,7 @@ pub enum Extension {
 }
 
 /// The number that a load reads, extended to 32 bits.
+#[inline(always)]
 fn extend(kind: Extension, n: u32) -> u32
     requires byte { kind ≡ Extension.Byte → n < 2 ^ 8 }
     requires half { kind ≡ Extension.Half → n < 2 ^ 16 }
@@ -143,6 +151,7 @@ fn extend(kind: Extension, n: u32) -> u32
 
 /// A load.
 #[tactic(auto, unfolding(seq_isa::specs::Meaning::loads))]
+#[inline(always)]
 pub fn loads<P: Port>(regs: &Regs, port: &P, rd: u8, at: u32, width: u8, kind: Extension) -> Effect
     requires width { IsWidth width }
     requires byte { kind ≡ Extension.Byte → width ≡ 1 }
@@ -162,6 +171,7 @@ pub fn loads<P: Port>(regs: &Regs, port: &P, rd: u8, at: u32, width: u8, kind: E
 }
 
 /// The number of the `width` low bytes.
+#[inline(always)]
 fn low_bytes(value: u32, width: u8) -> u32
     requires { IsWidth width }
     ensures value { result ≡ value % 2 ^ (8 * width) }
@@ -176,6 +186,7 @@ fn low_bytes(value: u32, width: u8) -> u32
 
 /// A store of the `width` low bytes of `value`.
 #[tactic(auto, unfolding(seq_isa::specs::Meaning::stores))]
+#[inline(always)]
 pub fn stores<P: Port>(regs: &Regs, port: &P, at: u32, width: u8, value: u32) -> Effect
     requires { IsWidth width }
     ensures value { result ≡ effect_of (P.admission port.now) (stores regs.now (P.bytes port.now) at width value) }
@@ -197,6 +208,7 @@ pub fn stores<P: Port>(regs: &Regs, port: &P, at: u32, width: u8, value: u32) ->
 }
 
 /// Makes an effect on the registers. Call, Trap and Full change nothing.
+#[inline(always)]
 pub fn apply(regs: &mut Regs, effect: &Effect)
     requires { NamesRegister effect.now }
     ensures after { regs.new ≡ applied regs.old effect.now }

@@ -1,8 +1,10 @@
 //! The plan of an instruction.
 ghost use Rattle.std.specs.Prelude.{◌≡◌, ◌≢◌, ℕ, ◌%◌, ◌<◌, ◌↔◌, true, false, IfSome, None};
 ghost use Rattle.seq_isa.specs.InRange.{InRange};
-ghost use Rattle.seq_isa.specs.Meaning.{outcome_of, outcome_at};
-ghost use Rattle.seq_rv32.specs.Sources.{sources_of, HoldAlike};
+ghost use Rattle.seq_isa.specs.Table.{rs1_of, rs2_of};
+ghost use Rattle.seq_isa.specs.Decoded.{decode_of};
+ghost use Rattle.seq_isa.specs.Meaning.{register, outcome_of, outcome_if, outcome_at};
+ghost use Rattle.seq_rv32.specs.Sources.{HoldAlike};
 ghost use Rattle.seq_rv32.specs.Effects.{effect_of, StoresWhereFull, StoreFits, NamesRegister, MovesAligned, ChangesNothing, applied, bytes_after, state_after};
 
 use crate::alu::{
@@ -13,11 +15,12 @@ use crate::effects::{
     Effect, Extension, address, apply, branches, gives, jumps, loads, read, stores,
 };
 use crate::port::Port;
-use seq_isa::{Instr, decode};
+use seq_isa::{Instr, decode, rs1, rs2};
 use seq_words::Regs;
 
 /// What an instruction would do with these registers at a port.
 #[tactic(auto, unfolding(seq_isa::specs::Meaning::outcome_of))]
+#[inline(always)]
 fn execute<P: Port>(instr: Instr, regs: &Regs, port: &P) -> Effect
     requires { InRange instr }
     ensures value { result ≡ effect_of (P.admission port.now) (outcome_of regs.now (P.bytes port.now) instr) }
@@ -212,66 +215,21 @@ fn execute<P: Port>(instr: Instr, regs: &Regs, port: &P) -> Effect
     }
 }
 
-// The two registers that an instruction reads; x0 stands for none.
-fn sources(instr: Instr) -> (u8, u8)
-    requires { InRange instr }
-    ensures value { result ≡ sources_of instr }
-    ensures first { result.0 < 32 }
-    ensures second { result.1 < 32 }
+// What a word would do as an instruction with these registers at a port.
+#[inline(always)]
+fn effect_of_word<P: Port>(word: u32, regs: &Regs, port: &P) -> Effect
+    ensures value { result ≡ effect_of (P.admission port.now) (outcome_if regs.now (P.bytes port.now) (decode_of word)) }
+    ensures register { NamesRegister result }
+    ensures store { StoreFits (P.admission port.now) result }
 {
-    match instr {
-        Instr::Lui { .. }
-        | Instr::Auipc { .. }
-        | Instr::Jal { .. }
-        | Instr::Fence { .. }
-        | Instr::Ecall
-        | Instr::Ebreak => (0, 0),
-        Instr::Jalr { rs1, .. }
-        | Instr::Lb { rs1, .. }
-        | Instr::Lh { rs1, .. }
-        | Instr::Lw { rs1, .. }
-        | Instr::Lbu { rs1, .. }
-        | Instr::Lhu { rs1, .. }
-        | Instr::Addi { rs1, .. }
-        | Instr::Slti { rs1, .. }
-        | Instr::Sltiu { rs1, .. }
-        | Instr::Xori { rs1, .. }
-        | Instr::Ori { rs1, .. }
-        | Instr::Andi { rs1, .. }
-        | Instr::Slli { rs1, .. }
-        | Instr::Srli { rs1, .. }
-        | Instr::Srai { rs1, .. } => (rs1, 0),
-        Instr::Beq { rs1, rs2, .. }
-        | Instr::Bne { rs1, rs2, .. }
-        | Instr::Blt { rs1, rs2, .. }
-        | Instr::Bge { rs1, rs2, .. }
-        | Instr::Bltu { rs1, rs2, .. }
-        | Instr::Bgeu { rs1, rs2, .. }
-        | Instr::Sb { rs1, rs2, .. }
-        | Instr::Sh { rs1, rs2, .. }
-        | Instr::Sw { rs1, rs2, .. }
-        | Instr::Add { rs1, rs2, .. }
-        | Instr::Sub { rs1, rs2, .. }
-        | Instr::Sll { rs1, rs2, .. }
-        | Instr::Slt { rs1, rs2, .. }
-        | Instr::Sltu { rs1, rs2, .. }
-        | Instr::Xor { rs1, rs2, .. }
-        | Instr::Srl { rs1, rs2, .. }
-        | Instr::Sra { rs1, rs2, .. }
-        | Instr::Or { rs1, rs2, .. }
-        | Instr::And { rs1, rs2, .. }
-        | Instr::Mul { rs1, rs2, .. }
-        | Instr::Mulh { rs1, rs2, .. }
-        | Instr::Mulhsu { rs1, rs2, .. }
-        | Instr::Mulhu { rs1, rs2, .. }
-        | Instr::Div { rs1, rs2, .. }
-        | Instr::Divu { rs1, rs2, .. }
-        | Instr::Rem { rs1, rs2, .. }
-        | Instr::Remu { rs1, rs2, .. } => (rs1, rs2),
+    match decode(word) {
+        None => Effect::Trap(2),
+        Some(instr) => execute(instr, regs, port),
     }
 }
 
 /// What the instruction at pc would do with these registers at a port.
+#[inline(always)]
 fn effect_at_pc<P: Port>(regs: &Regs, port: &P) -> Effect
     requires { regs.now.pc % 4 ≡ 0 }
     ensures value { result ≡ effect_of (P.admission port.now) (outcome_at regs.now (P.bytes port.now)) }
@@ -280,10 +238,7 @@ fn effect_at_pc<P: Port>(regs: &Regs, port: &P) -> Effect
 {
     match port.fetch(regs.pc) {
         None => Effect::Trap(1),
-        Some(word) => match decode(word) {
-            None => Effect::Trap(2),
-            Some(instr) => execute(instr, regs, port),
-        },
+        Some(word) => effect_of_word(word, regs, port),
     }
 }
 
@@ -301,46 +256,84 @@ pub fn plan<P: Port>(regs: &Regs, port: &P) -> Effect
     effect_at_pc(regs, port)
 }
 
-// Whether two register sets hold the same in each register that an instruction reads.
-fn hold_alike(instr: Instr, first: &Regs, second: &Regs) -> bool
-    requires range { InRange instr }
-    requires pc { first.now.pc ≡ second.now.pc }
-    ensures { result ≡ true → HoldAlike first.now second.now (sources_of instr).0 (sources_of instr).1 }
+// Whether two register sets hold the same in a register.
+#[inline(always)]
+fn is_alike(r: u8, first: &Regs, second: &Regs) -> bool
+    requires { r < 32 }
+    ensures { result ≡ true → register first.now r ≡ register second.now r }
 {
-    let (rs1, rs2) = sources(instr);
-    read(first, rs1) == read(second, rs1) && read(first, rs2) == read(second, rs2)
+    first.x[r as usize] == second.x[r as usize]
+}
+
+// Whether two register sets hold the same in both registers that a word names where its format has sources. An instruction
+// reads no others, so this needs no decoding.
+#[inline(always)]
+fn hold_alike(word: u32, first: &Regs, second: &Regs) -> bool
+    requires { first.now.pc ≡ second.now.pc }
+    ensures { result ≡ true → HoldAlike first.now second.now (rs1_of word) (rs2_of word) }
+{
+    is_alike(rs1(word), first, second) && is_alike(rs2(word), first, second)
 }
 
 // Whether two effects are one.
-fn is_same(first: &Effect, second: &Effect) -> bool
-    ensures same { result ≡ true → first.now ≡ second.now }
-    ensures differ { result ≡ false → first.now ≢ second.now }
+fn is_same(first: Effect, second: Effect) -> bool
+    ensures same { result ≡ true → first ≡ second }
+    ensures differ { result ≡ false → first ≢ second }
 {
-    *first == *second
+    first == second
 }
 
-// What an instruction would do with each of two register sets, where that is the same. It is planned a second time only where they
-// differ in a register that it reads.
-#[tactic(auto, using(crate::proofs::Sources::outcomes_alike))]
-fn execute_both<P: Port>(instr: Instr, first: &Regs, second: &Regs, port: &P) -> Option<Effect>
-    requires range { InRange instr }
-    requires pc { first.now.pc ≡ second.now.pc }
-    ensures first { IfSome result (λ e. e ≡ effect_of (P.admission port.now) (outcome_of first.now (P.bytes port.now) instr)) }
-    ensures second { IfSome result (λ e. e ≡ effect_of (P.admission port.now) (outcome_of second.now (P.bytes port.now) instr)) }
-    ensures differ { result ≡ None → effect_of (P.admission port.now) (outcome_of first.now (P.bytes port.now) instr) ≢ effect_of (P.admission port.now) (outcome_of second.now (P.bytes port.now) instr) }
+// What a word would do with registers, for a pair whose halves differ in a register that the word names.
+#[cold]
+#[inline(never)]
+fn effect_apart<P: Port>(word: u32, regs: &Regs, port: &P) -> Effect
+    ensures value { result ≡ effect_of (P.admission port.now) (outcome_if regs.now (P.bytes port.now) (decode_of word)) }
+    ensures register { NamesRegister result }
+    ensures store { StoreFits (P.admission port.now) result }
+{
+    effect_of_word(word, regs, port)
+}
+
+// What a word would do with each of two register sets, where that is the same: it is planned with both, and compared.
+#[cold]
+#[inline(never)]
+fn effect_compared<P: Port>(word: u32, first: &Regs, second: &Regs, port: &P) -> Option<Effect>
+    ensures first { IfSome result (λ e. e ≡ effect_of (P.admission port.now) (outcome_if first.now (P.bytes port.now) (decode_of word))) }
+    ensures second { IfSome result (λ e. e ≡ effect_of (P.admission port.now) (outcome_if second.now (P.bytes port.now) (decode_of word))) }
+    ensures differ { result ≡ None → effect_of (P.admission port.now) (outcome_if first.now (P.bytes port.now) (decode_of word)) ≢ effect_of (P.admission port.now) (outcome_if second.now (P.bytes port.now) (decode_of word)) }
     ensures register { IfSome result NamesRegister }
     ensures store { IfSome result (StoreFits (P.admission port.now)) }
 {
-    let effect = execute(instr, first, port);
-    if hold_alike(instr, first, second) || is_same(&effect, &execute(instr, second, port)) {
+    let effect = effect_apart(word, first, port);
+    if is_same(effect, effect_apart(word, second, port)) {
         Some(effect)
     } else {
         None
     }
 }
 
+// What a word would do with each of two register sets, where that is the same. It is planned a second time only where they differ
+// in a register that the word names.
+#[tactic(auto, using(crate::proofs::Sources::words_alike))]
+#[inline(always)]
+fn effect_on_both<P: Port>(word: u32, first: &Regs, second: &Regs, port: &P) -> Option<Effect>
+    requires { first.now.pc ≡ second.now.pc }
+    ensures first { IfSome result (λ e. e ≡ effect_of (P.admission port.now) (outcome_if first.now (P.bytes port.now) (decode_of word))) }
+    ensures second { IfSome result (λ e. e ≡ effect_of (P.admission port.now) (outcome_if second.now (P.bytes port.now) (decode_of word))) }
+    ensures differ { result ≡ None → effect_of (P.admission port.now) (outcome_if first.now (P.bytes port.now) (decode_of word)) ≢ effect_of (P.admission port.now) (outcome_if second.now (P.bytes port.now) (decode_of word)) }
+    ensures register { IfSome result NamesRegister }
+    ensures store { IfSome result (StoreFits (P.admission port.now)) }
+{
+    if hold_alike(word, first, second) {
+        Some(effect_of_word(word, first, port))
+    } else {
+        effect_compared(word, first, second, port)
+    }
+}
+
 /// What the instruction at one pc would do with each of two register sets, where that is the same, and None exactly where it
-/// differs. It is fetched and decoded once, and planned a second time only where they differ in a register that it reads.
+/// differs. It is fetched once, and planned a second time only where they differ in a register that its word names.
+#[inline(always)]
 pub fn plan_both<P: Port>(first: &Regs, second: &Regs, port: &P) -> Option<Effect>
     requires aligned { first.now.pc % 4 ≡ 0 }
     requires pc { first.now.pc ≡ second.now.pc }
@@ -352,10 +345,7 @@ pub fn plan_both<P: Port>(first: &Regs, second: &Regs, port: &P) -> Option<Effec
 {
     match port.fetch(first.pc) {
         None => Some(Effect::Trap(1)),
-        Some(word) => match decode(word) {
-            None => Some(Effect::Trap(2)),
-            Some(instr) => execute_both(instr, first, second, port),
-        },
+        Some(word) => effect_on_both(word, first, second, port),
     }
 }
 
