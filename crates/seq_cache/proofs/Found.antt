@@ -1,5 +1,5 @@
 -- What a search finds in an ascending list, and what a change does at that place.
-use Rattle.std.proofs.Common.{◌≡◌, ℕ, zero, suc, ◌<◌, ◌≤◌, true, List, [], ◌∷◌, length, get_or, set, length-set, Some, None, Result, Ok, Err, is_ok, is_some, IfOk, IfErr, inl, inr, refl, ap, ◌∙◌, subst, arith}
+use Rattle.std.proofs.Common.{◌≡◌, ℕ, zero, suc, ◌<◌, ◌≤◌, true, List, [], ◌∷◌, length, get_or, set, length-set, Some, None, Result, Ok, Err, is_ok, is_some, IfOk, IfErr, inl, inr, refl, sym, ap, ◌∙◌, subst, arith}
 use Rattle.std.specs.List.{AllWithin, HoldsAt, insert}
 use Rattle.std.specs.List.Sorted.{IsSearchInRange, IsBinarySearchResult, IsNonDecreasingBy}
 use Rattle.std.specs.Ordering.{nat_cmp, ordering_then, ordering_index}
@@ -120,6 +120,8 @@ module _ (cs : List Change) (up : IsAscending cs) (e n : ℕ) where
         variant = rw (changed_at cs e n at (change e n zero_block) up stands) refl;
         found = record {
           inside = inside;
+          extent = stands.extent;
+          place = stands.place;
           block = λ none. changed_at cs e n at none up stands;
           put = λ b. put_at cs e n at b up stands;
         };
@@ -152,6 +154,8 @@ stands cs e n i c up inside there extent place =
     } in
     record {
       inside = inside;
+      extent = at.extent;
+      place = at.place;
       block = λ none. changed_at cs e n i none up at;
       put = λ b. put_at cs e n i b up at;
     }
@@ -159,6 +163,14 @@ stands cs e n i c up inside there extent place =
 -- and the block is changed
 pub standing_is_changed : (cs : List Change) (e n i : ℕ) → standing.StandsAt cs e n i → is_some (changed cs e n) ≡ true
 standing_is_changed cs e n i at = rw (at.block (change e n zero_block)) refl
+
+-- a change that stands there is of the block still when it is changed further
+pub changed_further : (cs : List Change) (e n i : ℕ) (c : Change) (b : Block) → standing.StandsAt cs e n i → get_or cs i c ≡ c → ◌≡◌ {A = Change} (record c { block = b }) (change e n b)
+changed_further cs e n i c b at there =
+    let extent : c.extent.0 ≡ e = ap (λ (x : Change). x.extent.0) (sym there) ∙ at.extent c in
+    let place : c.place ≡ n = ap (λ (x : Change). x.place) (sym there) ∙ at.place c in
+    let same : change c.extent.0 c.place b ≡ change e n b = cc in
+    same
 
 -- what is true of every cache stays true where a change replaces that of its block
 pub replaced_fits : (capacity : ℕ) (cs : List Change) (e n i : ℕ) (b : Block) → IsCache (record { capacity = capacity; changes = cs }) → standing.StandsAt cs e n i → IsCache (record { capacity = capacity; changes = set cs i (change e n b) })

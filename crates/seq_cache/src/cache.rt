@@ -1,6 +1,7 @@
 // The cache of a processor, as a sorted vector.
 ghost use Rattle.std.specs.Prelude.{◌≡◌, ℕ, ◌+◌, ◌<◌, ◌≤◌, ◌↔◌, ◌==◌, ◌&&◌, if◌then◌else◌, true, false, is_ok, is_some, [], insert, length, slice_get, slice_set, vec_len, vec_capacity, Some, None, IfOk, IfErr, IfSome, OnOk, OnErr, IsTrue, IsErr};
-ghost use Rattle.std.specs.Option.{option_copied};
+ghost use Rattle.std.specs.Borrow.{sem};
+ghost use Rattle.std.specs.Option.{option_copied, option_copied_mut};
 ghost use Rattle.std.specs.Vec.{SameBlock};
 ghost use Rattle.seq_layout.specs.Places.{IsPlace};
 ghost use Rattle.seq_layout.specs.Copies.{Matches, copies, IsServed};
@@ -95,6 +96,8 @@ fn clear_in_place(changes: &mut Vec<Change>)
 }
 
 impl Cache {
+    ghost use Rattle.seq_cache.specs.Lending.{LendsBlock, LendsIfChanged};
+
     /// No block is changed, and at most `capacity` may be. It takes all the memory that the cache will ever need.
     #[tactic(auto, using(crate::proofs::Marked::none_marked))]
     pub fn new(alloc: Global, capacity: u16) -> Result<Cache, NoMemory>
@@ -136,17 +139,19 @@ impl Cache {
         ensures found { option_copied result ≡ changed self.now.changes extent.0 n }
         ensures whole { IfSome result (λ block. length block.now.bytes ≡ 32) }
     {
-        if !self.is_marked(extent, n) {
-            return None;
-        }
-        match self.search(extent, n) {
-            Ok(at) => {
-                let block = &self.changes[at].block;
-                all_bytes(&block.bytes);
-                Some(block)
-            }
-            Err(_) => None,
-        }
+        let at = self.place_of(extent, n)?;
+        let block = &self.changes[at].block;
+        all_bytes(&block.bytes);
+        Some(block)
+    }
+
+    /// What a block was changed to, to be changed further in its place.
+    pub fn find_mut(&mut self, extent: Extent, n: u32) -> Option<&mut Block>
+        ensures* writes_back { sem 𝓛 (LendsIfChanged self.entry extent.0 n result) }
+        ensures found { option_copied_mut result ≡ changed self.old.changes extent.0 n }
+    {
+        let at = self.place_of(extent, n)?;
+        Some(self.lend(extent, n, at))
     }
 
     /// A block as the processor sees it: what it was changed to, else what its first copy holds.
@@ -236,6 +241,17 @@ impl Cache {
         change.extent.0 == extent.0 && change.place == n
     }
 
+    // Where the change of a block stands, if it is changed. A mark without a hint needs no search.
+    fn place_of(&self, extent: Extent, n: u32) -> Option<usize>
+        ensures variant { is_some result ≡ is_some (changed self.now.changes extent.0 n) }
+        ensures stands { IfSome result (StandsAt self.now.changes extent.0 n) }
+    {
+        if !self.is_marked(extent, n) {
+            return None;
+        }
+        self.search(extent, n).ok()
+    }
+
     // Where the change of a block stands, or else where it would stand. It looks first where the block's hint says.
     #[tactic(auto, using(crate::proofs::Found::standing_is_changed))]
     fn search(&self, extent: Extent, n: u32) -> Result<usize, usize>
@@ -258,6 +274,18 @@ impl Cache {
     {
         self.changes
             .binary_search_by_key(&(extent.0, n), |change| (change.extent.0, change.place))
+    }
+
+    // The block whose change stands at a place, to be changed there. The next search for it looks first at this place.
+    fn lend(&mut self, extent: Extent, n: u32, at: usize) -> &mut Block
+        requires { StandsAt self.old.changes extent.0 n at }
+        ensures* writes_back { sem 𝓛 (LendsBlock self.entry extent.0 n result) }
+        ensures value { changed self.old.changes extent.0 n ≡ Some result.now }
+    {
+        let hints = &mut self.hints;
+        hints[mark_of(extent, n)] = at as u16 + 1;
+        let change = &mut self.changes[at];
+        &mut change.block
     }
 
     // Puts a change in place of the one of its block.

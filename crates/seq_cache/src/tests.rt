@@ -1,3 +1,5 @@
+ghost use Rattle.std.specs.Prelude.{◌<◌};
+
 use crate::{Cache, Full};
 use seq_layout::Extent;
 use seq_words::{Block, NoMemory};
@@ -65,5 +67,39 @@ fn changes_stand_in_ascending_order(rt: HostRuntime) -> Result<(), NoMemory> {
         assert_eq!(rt; cache.dirty_at(i).extent, Extent(extent));
         assert_eq!(rt; cache.dirty_at(i).place, n);
     }
+    Ok(())
+}
+
+/// Puts 9 into a byte of a block of extent 1 that is changed.
+fn put_nine(cache: &mut Cache, n: u32, at: usize) -> bool
+    requires { at < 32 }
+{
+    match cache.find_mut(Extent(1), n) {
+        Some(block) => {
+            block.bytes[at] = 9;
+            true
+        }
+        None => false,
+    }
+}
+
+/// The first bytes of a block of extent 1 that is changed.
+fn first_bytes(cache: &Cache, n: u32) -> Option<(u8, u8, u8)> {
+    let block = cache.find(Extent(1), n)?;
+    Some((block.bytes[0], block.bytes[1], block.bytes[2]))
+}
+
+#[test]
+fn a_lent_block_is_changed_in_its_place(rt: HostRuntime) -> Result<(), NoMemory> {
+    let mut cache = Cache::new(rt.alloc(), 4)?;
+    assert_eq!(rt; cache.write(Extent(1), 3, &filled(1)), Ok(()));
+    assert_eq!(rt; cache.write(Extent(1), 7, &filled(1)), Ok(()));
+    assert!(rt; put_nine(&mut cache, 3, 0));
+    assert!(rt; put_nine(&mut cache, 3, 1));
+    assert!(rt; put_nine(&mut cache, 7, 0));
+    assert!(rt; !put_nine(&mut cache, 5, 0));
+    assert_eq!(rt; cache.dirty(), 2);
+    assert_eq!(rt; first_bytes(&cache, 3), Some((9, 9, 1)));
+    assert_eq!(rt; first_bytes(&cache, 7), Some((9, 1, 1)));
     Ok(())
 }

@@ -1,5 +1,5 @@
 // The memory that a process sees on the hardware.
-ghost use Rattle.std.specs.Prelude.{◌≡◌, ℕ, ◌+◌, ◌*◌, ◌/◌, ◌%◌, ◌^◌, ◌-◌, ◌<◌, ◌≤◌, ◌&&◌, if◌then◌else◌, nat_le, nat_lt, Option, Some, None, IfSome, slice_index};
+ghost use Rattle.std.specs.Prelude.{◌≡◌, ℕ, ◌+◌, ◌*◌, ◌/◌, ◌%◌, ◌^◌, ◌-◌, ◌<◌, ◌≤◌, ◌&&◌, if◌then◌else◌, nat_le, nat_lt, Option, Some, None, IfSome, slice_index, true};
 ghost use Rattle.std.specs.Int.{byte_at};
 ghost use Rattle.std.proofs.Props.{props};
 ghost use Rattle.seq_isa.specs.Meaning.{number_at};
@@ -8,6 +8,7 @@ ghost use Rattle.seq_rv32.specs.ByteMemory.{bytes_stored};
 ghost use Rattle.seq_layout.specs.Places.{IsPlace};
 ghost use Rattle.seq_layout.specs.Shapes.{shape_of};
 ghost use Rattle.seq_layout.specs.Copies.{copies};
+ghost use Rattle.seq_cache.specs.Changes.{admits, with_change};
 ghost use Rattle.seq_kernel.specs.Views.{IsReady, read_by, seen, block_stored};
 
 use seq_cache::Cache;
@@ -35,6 +36,7 @@ pub struct View<'a> {
 
 // The little-endian number of one, two or four bytes of a block.
 #[tactic(auto, unfolding(seq_isa::specs::Meaning::number_at))]
+#[inline(always)]
 fn number_in(block: &Block, at: usize, width: u8) -> u32
     requires width { IsWidth width }
     requires aligned { at % width ≡ 0 }
@@ -65,9 +67,32 @@ fn put(bytes: &mut [u8; 32], at: usize, width: u8, value: u32)
     }
 }
 
+// Changes a block that isn't changed yet: it is a copy of this one, with the low bytes of a number put in.
+#[cold]
+#[inline(never)]
+fn change_copy(
+    cache: &mut Cache,
+    extent: Extent,
+    n: u32,
+    first: &Block,
+    at: usize,
+    width: u8,
+    value: u32,
+)
+    requires width { IsWidth width }
+    requires inside { at + width ≤ 32 }
+    requires admitted { admits cache.old extent.0 n ≡ true }
+    ensures { cache.new ≡ with_change cache.old extent.0 n (block_stored first.now at width value) }
+{
+    let mut block = *first;
+    put(&mut block.bytes, at, width, value);
+    cache.write(extent, n, &block).unwrap();
+}
+
 impl<'a> View<'a> {
     // A block as the process reads it: what it was changed to, else its first copy.
     #[tactic(auto, unfolding(seq_cache::specs::Overlay::overlay))]
+    #[inline(always)]
     fn block(&self, extent: Extent, n: u32) -> &Block
         requires { IsPlace (shape_of self.now.desc.now).blocks extent.0 n }
         ensures { result.now ≡ read_by self.now.desc.now (copies self.now.layout.now self.now.memories.now) self.now.cache.now extent.0 n }
@@ -80,6 +105,7 @@ impl<'a> View<'a> {
 
     // The number of one, two or four bytes at an address.
     #[tactic(auto, using(crate::proofs::ViewSeen::number_outside))]
+    #[inline(always)]
     fn number(&self, at: u32, width: u8) -> Option<u32>
         requires width { IsWidth width }
         requires aligned { at % width ≡ 0 }
@@ -104,6 +130,7 @@ impl<'a> Port for View<'a> {
       cache = record v.cache { now = stored v.desc.now v.pid.0 v.held (copies v.layout.now v.memories.now) v.cache.now at width value };
     } };
 
+    #[inline(always)]
     fn fetch(&self, at: u32) -> Option<u32> {
         self.number(at, 4)
     }
@@ -124,8 +151,13 @@ impl<'a> Port for View<'a> {
     fn store(&mut self, at: u32, width: u8, value: u32) {
         let (extent, byte) = map(self.desc, self.pid, self.held, at).unwrap();
         let n = byte / BLOCK;
-        let mut block = *self.block(extent, n);
-        put(&mut block.bytes, (byte % BLOCK) as usize, width, value);
-        self.cache.write(extent, n, &block).unwrap();
+        let within = (byte % BLOCK) as usize;
+        match self.cache.find_mut(extent, n) {
+            Some(block) => put(&mut block.bytes, within, width, value),
+            None => {
+                let first = self.layout.first_block(self.memories, extent, n);
+                change_copy(self.cache, extent, n, first, within, width, value);
+            }
+        }
     }
 }
