@@ -31,7 +31,6 @@ pub mod KeptRunning
 pub mod KeptCache
 pub mod KeptCalls
 pub mod KeptSteps
-pub mod CallMachines
 pub mod CountedTurns
 pub mod Owners
 pub mod Agreed
