@@ -4,15 +4,11 @@
 mod context;
 mod context_laws;
 mod copies;
-#[cfg(test)]
-mod copies_tests;
 mod described;
 mod extents;
 mod first_laws;
 mod laws;
 mod layout;
-#[cfg(test)]
-mod layout_tests;
 mod starts;
 mod survives;
 mod units;

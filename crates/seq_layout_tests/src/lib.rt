@@ -1,5 +1,11 @@
-//! A memory that fails and is copied back, through the calls of its layout.
+//! What a layout answers, the context of a process in its blocks, and copies that are written, lost and copied back.
 #![tactic(auto)]
 
 #[cfg(test)]
-mod tests;
+mod bench;
+#[cfg(test)]
+mod context_tests;
+#[cfg(test)]
+mod copies_tests;
+#[cfg(test)]
+mod layout_tests;

@@ -1,10 +1,17 @@
 // The layout of a machine of three memories, written out by hand.
-use crate::{
+use crate::bench::layout_of;
+use seq_layout::{
     Extent, Layout, Unit, WordAt, extents_have_their_parts, line_has_its_owner, places_are_apart,
 };
 use seq_samples::three_memories;
 use seq_words::{LineNo, Me, NoMemory, Pid, Seg};
+use std::alloc::Global;
 use std::process::Abort;
+
+fn layout(alloc: Global) -> Result<Layout, NoMemory> {
+    let desc = three_memories(alloc)?;
+    layout_of(alloc, &desc)
+}
 
 /// An extent: its blocks, its words, the memories of its two copies, and the places there of its first block and of its
 /// first word.
@@ -70,63 +77,78 @@ fn check_extents(rt: &impl Abort, layout: &Layout, rows: &[Row]) {
 
 #[test]
 fn a_machine_of_three_memories(rt: HostRuntime) -> Result<(), NoMemory> {
-    let alloc = rt.alloc();
-    let layout = Layout::new(alloc, &three_memories(alloc)?)?;
+    let layout = layout(rt.alloc())?;
     assert!(rt; layout.extents() == 6);
     check_extents(&rt, &layout, &EXTENTS);
     Ok(())
 }
 
-fn block(extent: u32, n: u32) -> Option<Unit> {
-    Some(Unit::Block(Extent(extent), n))
+/// A memory, the number of a unit in it, and of the block or word that it is its extent and its number there.
+type UnitRow = (u8, u32, u32, u32);
+
+const BLOCKS: [UnitRow; 10] = [
+    (0, 0, 0, 0),
+    (0, 9, 0, 9),
+    (0, 11, 2, 0),
+    (0, 13, 3, 0),
+    (0, 14, 3, 1),
+    (0, 16, 5, 0),
+    (0, 18, 5, 2),
+    (1, 11, 1, 0),
+    (2, 26, 2, 0),
+    (2, 36, 5, 2),
+];
+
+const WORDS: [UnitRow; 10] = [
+    (0, 10, 0, 0),
+    (0, 12, 2, 0),
+    (0, 15, 3, 0),
+    (0, 19, 5, 0),
+    (0, 21, 5, 2),
+    (1, 10, 0, 0),
+    (1, 36, 1, 0),
+    (1, 45, 4, 2),
+    (2, 25, 1, 0),
+    (2, 39, 5, 2),
+];
+
+/// A memory, and a number past its last unit.
+const PAST: [(u8, u32); 3] = [(0, 22), (1, 46), (2, u32::MAX)];
+
+fn check_unit(rt: &impl Abort, layout: &Layout, memory: u8, next: u32, unit: Option<Unit>) {
+    assert!(rt; memory < layout.memory_count());
+    assert_eq!(rt; layout.unit(Me(memory), next), unit, "{memory} {next}");
 }
 
-fn word(extent: u32, word: u32) -> Option<Unit> {
-    Some(Unit::Word(WordAt {
-        extent: Extent(extent),
-        word,
-    }))
+fn check_blocks(rt: &impl Abort, layout: &Layout, rows: &[UnitRow]) {
+    for (memory, next, extent, n) in rows {
+        let block = Unit::Block(Extent(*extent), *n);
+        check_unit(rt, layout, *memory, *next, Some(block));
+    }
 }
 
-/// Which unit of a memory is copied next.
-type UnitRow = (u8, u32, Option<Unit>);
+fn check_words(rt: &impl Abort, layout: &Layout, rows: &[UnitRow]) {
+    for (memory, next, extent, word) in rows {
+        let at = WordAt {
+            extent: Extent(*extent),
+            word: *word,
+        };
+        check_unit(rt, layout, *memory, *next, Some(Unit::Word(at)));
+    }
+}
 
-fn check_units(rt: &impl Abort, layout: &Layout, rows: &[UnitRow]) {
-    for (memory, next, unit) in rows {
-        assert!(rt; *memory < layout.memory_count());
-        assert_eq!(rt; layout.unit(Me(*memory), *next), *unit, "{memory} {next}");
+fn check_past(rt: &impl Abort, layout: &Layout, rows: &[(u8, u32)]) {
+    for (memory, next) in rows {
+        check_unit(rt, layout, *memory, *next, None);
     }
 }
 
 #[test]
 fn units_of_three_memories(rt: HostRuntime) -> Result<(), NoMemory> {
-    let alloc = rt.alloc();
-    let layout = Layout::new(alloc, &three_memories(alloc)?)?;
-    let units = [
-        (0, 0, block(0, 0)),
-        (0, 9, block(0, 9)),
-        (0, 10, word(0, 0)),
-        (0, 11, block(2, 0)),
-        (0, 12, word(2, 0)),
-        (0, 13, block(3, 0)),
-        (0, 14, block(3, 1)),
-        (0, 15, word(3, 0)),
-        (0, 16, block(5, 0)),
-        (0, 18, block(5, 2)),
-        (0, 19, word(5, 0)),
-        (0, 21, word(5, 2)),
-        (0, 22, None),
-        (1, 10, word(0, 0)),
-        (1, 11, block(1, 0)),
-        (1, 36, word(1, 0)),
-        (1, 45, word(4, 2)),
-        (1, 46, None),
-        (2, 25, word(1, 0)),
-        (2, 26, block(2, 0)),
-        (2, 39, word(5, 2)),
-        (2, u32::MAX, None),
-    ];
-    check_units(&rt, &layout, &units);
+    let layout = layout(rt.alloc())?;
+    check_blocks(&rt, &layout, &BLOCKS);
+    check_words(&rt, &layout, &WORDS);
+    check_past(&rt, &layout, &PAST);
     Ok(())
 }
 
@@ -170,8 +192,7 @@ fn check_counts(rt: &impl Abort, layout: &Layout) {
 
 #[test]
 fn processes_segments_and_lines(rt: HostRuntime) -> Result<(), NoMemory> {
-    let alloc = rt.alloc();
-    let layout = Layout::new(alloc, &three_memories(alloc)?)?;
+    let layout = layout(rt.alloc())?;
     check_counts(&rt, &layout);
     check_numbered(&rt, &layout, 0);
     check_numbered(&rt, &layout, 1);
