@@ -11,10 +11,10 @@ ghost use Rattle.seq_flush.specs.Turns.{into_stage};
 use crate::{Close, Closed, First, Flush, Mark, Second, Step};
 use seq_cache::Cache;
 use seq_layout::{Extent, Layout, WordAt};
-use seq_memory::{Memories, MemoryElement};
+use seq_memory::Memories;
 use seq_samples::two_segments;
 use seq_status::Holder;
-use seq_words::{Block, Items, NoMemory, Pe, Pid};
+use seq_words::{Block, NoMemory, Pe, Pid};
 use std::alloc::Global;
 
 const HOLDER: Holder = Holder {
@@ -34,23 +34,6 @@ fn layout(alloc: Global) -> Result<Layout, NoMemory>
 {
     let desc = two_segments(alloc)?;
     Layout::new(alloc, &desc)
-}
-
-// Two memories in service, each with room for a copy of all of that machine.
-fn two_memories(alloc: Global, layout: &Layout) -> Result<Memories, NoMemory>
-    requires memories { layout.now.memories ≡ 2 }
-    requires blocks { layout.now.blocks ≡ 10 ∷ 1 ∷ 1 ∷ [] }
-    requires words { layout.now.words ≡ 1 ∷ 1 ∷ 1 ∷ [] }
-    ensures { IfOk result (Matches layout.now) }
-{
-    let first = MemoryElement::new(alloc, 12, 3)?;
-    let second = MemoryElement::new(alloc, 12, 3)?;
-    let Ok(elements) = vec![in alloc; first, second] else {
-        return Err(NoMemory);
-    };
-    Ok(Memories {
-        elements: Items::from_vec(elements),
-    })
 }
 
 // A block whose bytes are all the same.
@@ -278,7 +261,7 @@ fn new_machine(alloc: Global) -> Result<Machine, NoMemory>
     ensures words { IfOk result (λ b. b.layout.words ≡ 1 ∷ 1 ∷ 1 ∷ []) }
 {
     let layout = layout(alloc)?;
-    let memories = two_memories(alloc, &layout)?;
+    let memories = layout.memories(alloc)?;
     let cache = three_changes(alloc)?;
     Ok(Machine {
         layout,

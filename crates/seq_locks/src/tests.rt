@@ -6,9 +6,9 @@ ghost use Rattle.seq_layout.specs.Copies.{Matches};
 
 use crate::{Claim, Claimed, Held, Release};
 use seq_layout::{Extent, Layout, WordAt};
-use seq_memory::{Memories, MemoryElement};
+use seq_memory::Memories;
 use seq_samples::lone_process;
-use seq_words::{Items, NoMemory};
+use seq_words::NoMemory;
 use std::alloc::Global;
 use std::process::Abort;
 
@@ -26,23 +26,6 @@ fn layout(alloc: Global) -> Result<Layout, NoMemory>
     let desc = lone_process(alloc)?;
     let layout = Layout::new(alloc, &desc)?;
     Ok(layout)
-}
-
-// Two memories in service, each with room for a copy of the process.
-fn two_memories(alloc: Global, layout: &Layout) -> Result<Memories, NoMemory>
-    requires memories { layout.now.memories ≡ 2 }
-    requires blocks { layout.now.blocks ≡ 9 ∷ [] }
-    requires words { layout.now.words ≡ 1 ∷ [] }
-    ensures { IfOk result (Matches layout.now) }
-{
-    let first = MemoryElement::new(alloc, 9, 1)?;
-    let second = MemoryElement::new(alloc, 9, 1)?;
-    let Ok(elements) = vec![in alloc; first, second] else {
-        return Err(NoMemory);
-    };
-    Ok(Memories {
-        elements: Items::from_vec(elements),
-    })
 }
 
 // When the memory of a copy fails.
@@ -64,7 +47,7 @@ struct Machine {
 
 fn new_machine(alloc: Global) -> Result<Machine, NoMemory> {
     let layout = layout(alloc)?;
-    let memories = two_memories(alloc, &layout)?;
+    let memories = layout.memories(alloc)?;
     Ok(Machine { layout, memories })
 }
 
