@@ -26,6 +26,7 @@ fn keep_commit(note: Note, kept: &mut Kept)
 }
 
 // Makes this event. The entry that it commits is kept, where there is room.
+#[inline(always)]
 fn one<C: Chronicle>(
     event: Event,
     hardware: &mut Hardware,
@@ -43,6 +44,7 @@ fn one<C: Chronicle>(
 }
 
 /// Makes these events, up to the first that ends the run.
+#[inline(always)]
 pub fn make<C: Chronicle>(
     events: &[Event],
     hardware: &mut Hardware,
@@ -61,6 +63,7 @@ pub fn make<C: Chronicle>(
 }
 
 /// Makes these events so many times.
+#[inline(always)]
 pub fn repeat<C: Chronicle>(
     count: u32,
     events: &[Event],

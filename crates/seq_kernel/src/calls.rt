@@ -492,6 +492,7 @@ fn numbered(
 /// A kernel call of a running process. Where the halves differ in what they ask for, nothing changes; nor where the process
 /// has to wait, or to be flushed for want of room in the cache.
 #[tactic(auto, unfolding(crate::specs::Calls::call_of))]
+#[inline(never)]
 pub fn call(
     r: &mut Running,
     cache: &mut Cache,

@@ -68,6 +68,7 @@ fn trap(r: &mut Running, code: u8) -> Outcome
 /// One turn of a running process. Where the halves differ, nothing changes; nor where the process has to wait, or to be
 /// flushed for want of room in the cache, nor where it acquires a segment, which its lock decides.
 #[tactic(auto, unfolding(crate::specs::Steps::step_of))]
+#[inline(never)]
 pub fn step(
     r: &mut Running,
     cache: &mut Cache,

@@ -1,5 +1,5 @@
 -- What a turn of a running process leaves of its cache.
-use Rattle.std.proofs.Common.{◌≡◌, ℕ, ◌-◌, false, ◌==◌, [], refl, sym}
+use Rattle.std.proofs.Common.{◌≡◌, ℕ, ◌-◌, false, ◌==◌, [], refl, sym, ap, ◌∙◌}
 use Rattle.std.proofs.lemmas.Bool.{cond_both}
 use Rattle.seq_words.specs.declared.description.MachineDesc.{MachineDesc}
 use Rattle.seq_layout.specs.Shapes.{shape_of}
@@ -10,13 +10,15 @@ use Rattle.seq_kernel.specs.declared.outcomes.Cause.TheVariants.{Wait}
 use Rattle.seq_kernel.specs.declared.outcomes.Reason.TheVariants.{Lock}
 use Rattle.seq_kernel.specs.declared.outcomes.Note.TheVariants as note
 use Rattle.seq_locks.specs.Turns.{is_taken, word_at}
+use Rattle.seq_turns.specs.declared.hand.Hand.{Hand}
 use Rattle.seq_turns.specs.Machines.{Machine, Turn, idles}
 use Rattle.seq_turns.specs.Machines.Turn.{Moves, Stops as StopsProcessor}
 use Rattle.seq_turns.specs.Reading.{lock_word}
 use Rattle.seq_turns.specs.Causes.{agree, follows, flushes, finds}
 use Rattle.seq_machine.specs.Here.{turned, cache_after}
 use Rattle.seq_machine.specs.Runs.{turn_after}
-use Rattle.seq_machine.specs.Processors.{cache_left}
+use Rattle.seq_machine.specs.Processors.{hand_left, cache_left, processor_after}
+use Rattle.seq_machine.specs.declared.hardware.Processor.{Processor}
 use Rattle.seq_machine.specs.declared.runs.Ran.{Ran}
 use Rattle.seq_machine.specs.declared.runs.Ran.TheVariants.{Goes, Leaves, Acquires, Stops}
 
@@ -40,3 +42,10 @@ module _ (d : MachineDesc) (m : Machine) (p : ℕ) (r : Running) (old new : Chan
       (λ _. rw is (finds_leaves (Wait (Lock t (record { 0 = word_at m.copies (lock_word d t.0) false - 1 }))) 0))
       (λ _. sym is)
   ran_leaves is Stops = stop_leaves
+
+-- the processor after a turn whose hand and cache these are
+pub processor_is : (t u : Turn) (old : Processor) (new : Changes) (h : Hand) (c : Changes) → t ≡ u → h ≡ hand_left (turned t) → c ≡ cache_left (turned t) new → LeavesCache old.cache new t → record { hand = h; cache = c } ≡ processor_after u old
+processor_is t u old new h c same hand cache kept = λ i. record {
+  hand = (hand ∙ ap (λ (x : Turn). hand_left (turned x)) same) i;
+  cache = (cache ∙ kept ∙ (λ j. cache_left (turned (same j)) (cache_after old.cache (same j)))) i;
+}

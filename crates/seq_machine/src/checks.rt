@@ -22,6 +22,7 @@ pub fn answered(stopped: Element, blocker: Option<Blocker>) -> Result<Note, Stop
 
 impl Hardware {
     /// What stands against the stop of an element.
+    #[inline(never)]
     pub(crate) fn blocker(&self, stopped: Element) -> Option<Blocker>
         requires hardware { IsHardware self.now }
         requires checked { MayBeChecked self.now.desc (held_copies self.now) }

@@ -23,6 +23,7 @@ const MOST_PROCESSORS: usize = 8;
 
 // Whether a memory is to be copied.
 #[tactic(auto, using(seq_ruling::proofs::States::state_is))]
+#[inline(always)]
 fn is_copied(at: u8, memories: &Memories, layout: &Layout) -> bool
     requires matches { Matches layout.now memories.now }
     requires memory { at < layout.now.memories }
@@ -36,6 +37,7 @@ fn is_copied(at: u8, memories: &Memories, layout: &Layout) -> bool
 
 // The memory that is to be copied, if there is one.
 #[tactic(auto, using(seq_ruling::proofs::Lowest::lowest_none))]
+#[inline(always)]
 fn copied_memory(memories: &Memories, layout: &Layout) -> Option<Me>
     requires { Matches layout.now memories.now }
     ensures { result ≡ option_map (λ i. record { 0 = i }) (element_turn.copied_memory layout.now (copies layout.now memories.now)) }
@@ -49,6 +51,7 @@ fn copied_memory(memories: &Memories, layout: &Layout) -> Option<Me>
 }
 
 // Whether a processor copies a memory, where one is to be copied.
+#[inline(always)]
 fn is_copier(hand: &Hand) -> bool
     ensures { result ≡ is_copier hand.now }
 {
@@ -72,6 +75,7 @@ fn is_amid(hand: &Hand) -> bool
 
 impl Hardware {
     /// The memory that a processor's turn is to copy, if there is one.
+    #[inline(always)]
     pub(crate) fn copied_by(&self, pe: Pe) -> Option<Me>
         requires hardware { IsHardware self.now }
         requires processor { pe.0 < self.now.desc.processors }
@@ -107,6 +111,7 @@ impl Hardware {
     }
 
     /// The turn of a processor where this memory is to be copied: the next unit of it is, unless a processor is amid an operation.
+    #[inline(never)]
     pub(crate) fn copy_or_hold(&mut self, me: Me) -> Note
         requires hardware { IsHardware self.old }
         requires needs { CopyingNeeds self.old.layout (held_copies self.old) me.0 }

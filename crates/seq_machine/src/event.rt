@@ -23,6 +23,7 @@ use seq_words::{Entry, Event, Pe};
 
 // Tells an entry to the chronicle, if there is one.
 #[tactic(auto, using(crate::proofs::Unchanged::grows_same))]
+#[inline(always)]
 fn tell<C: Chronicle>(entry: Option<Entry>, chronicle: &mut C) -> Result<(), Stop>
     ensures ok { OnOk result (Grows (C.chronicle chronicle.old).told (C.chronicle chronicle.new).told (entries_of entry)) }
     ensures err { OnErr result ((C.chronicle chronicle.new).told ≡ (C.chronicle chronicle.old).told) }
@@ -42,6 +43,7 @@ fn tell<C: Chronicle>(entry: Option<Entry>, chronicle: &mut C) -> Result<(), Sto
 
 impl Hardware {
     // The entry that a processor's next turn commits, if it commits one.
+    #[inline(always)]
     fn commit(&self, pe: Pe) -> Option<Entry>
         requires hardware { IsHardware self.now }
         requires may { MayTurn self.now pe.0 }
@@ -52,6 +54,7 @@ impl Hardware {
     }
 
     // A turn of a processor. What it commits is told to the chronicle first: where that fails, nothing has changed.
+    #[inline(always)]
     fn told_turn<C: Chronicle>(&mut self, pe: Pe, chronicle: &mut C) -> Result<Note, Stop>
         requires hardware { IsHardware self.old }
         requires may { MayTurn self.old pe.0 }
@@ -77,6 +80,7 @@ impl Hardware {
     /// a note that says so and nothing else, and the chronicle gets the entry of a note that says so. The run ends where the line or
     /// the chronicle that the note would have asked has a fault, or was refused memory: then nothing has changed. It ends at a machine
     /// check too, where an element stops while something stands against it: then the stop stands. So far no line is hung up.
+    #[inline(always)]
     pub fn event<C: Chronicle>(
         &mut self,
         event: Event,

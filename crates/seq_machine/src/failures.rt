@@ -86,6 +86,7 @@ impl Hardware {
     }
 
     /// An element fails. That a processor stops, or a memory fails, may be a machine check.
+    #[inline(never)]
     pub(crate) fn fail(&mut self, element: Element) -> Result<Note, Stop>
         requires hardware { IsHardware self.old }
         requires allowed { FailureAllowed self.old.desc (machine_of self.old no_outside) element }
@@ -104,6 +105,7 @@ impl Hardware {
     }
 
     /// An element is repaired.
+    #[inline(never)]
     pub(crate) fn repair(&mut self, element: Element)
         requires hardware { IsHardware self.old }
         requires allowed { RepairAllowed self.old.desc (machine_of self.old no_outside) element }

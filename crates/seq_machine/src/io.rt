@@ -40,6 +40,7 @@ fn stopped_at(line: LineNo, error: LineError) -> Stop
 impl Hardware {
     /// A turn of an I/O element, over the lines outside: the table's, with its note. The line under its cursor may fail where a
     /// byte is sent there; then nothing has changed.
+    #[inline(never)]
     pub(crate) fn io_turn(&mut self, io: Ioe, lines: &mut Vec<Outlet>) -> Result<Note, Stop>
         requires hardware { IsHardware self.old }
         requires element { io.0 < self.old.desc.ios }

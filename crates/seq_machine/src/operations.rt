@@ -21,6 +21,7 @@ use seq_turns::Hand;
 use seq_words::{Entry, MachineDesc, Pe};
 
 /// The entry that the next turn of a processor that is amid an operation commits, if it commits one.
+#[inline(always)]
 pub fn commit_of(hand: &Hand, cache: &Cache) -> Option<Entry>
     ensures entry { (d : MachineDesc) (p : Copies) (i pe : ℕ) → IsOperating hand.now → result ≡ commit_of (turn d (here p cache.now i) pe hand.now) }
     ensures none { (IsOperating hand.now → ⊥) → result ≡ None }

@@ -11,6 +11,7 @@ use seq_words::LineNo;
 
 impl Hardware {
     // A byte arrives at the port of a line.
+    #[inline(never)]
     pub(crate) fn input(&mut self, line: LineNo, byte: u8)
         requires hardware { IsHardware self.old }
         requires allowed { MayArrive self.old.desc line.0 (port_of self.old line.0) }
@@ -25,6 +26,7 @@ impl Hardware {
     }
 
     // No further byte will arrive on a line.
+    #[inline(never)]
     pub(crate) fn close(&mut self, line: LineNo)
         requires hardware { IsHardware self.old }
         requires allowed { MayClose self.old.desc line.0 (port_of self.old line.0) }

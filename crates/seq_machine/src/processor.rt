@@ -1,19 +1,21 @@
 // A turn of a processor.
-ghost use Rattle.std.specs.Prelude.{◌≡◌, ℕ, ◌<◌, ◌^◌, [], length, slice_index, None};
+ghost use Rattle.std.specs.Prelude.{◌≡◌, ℕ, ◌<◌, ◌≤◌, ◌^◌, [], false, length, slice_index, None};
 ghost use Rattle.seq_words.specs.Description.{IsDescription};
 ghost use Rattle.seq_layout.specs.Shapes.{shape_of};
-ghost use Rattle.seq_layout.specs.Copies.{Matches, copies};
+ghost use Rattle.seq_layout.specs.Copies.{Copies, Matches, copies};
+ghost use Rattle.seq_locks.specs.Turns.{word_at};
 ghost use Rattle.seq_process.specs.declared.running.Running.{Running};
 ghost use Rattle.seq_turns.specs.declared.hand.RecoveryAt.{RecoveryAt};
 ghost use Rattle.seq_turns.specs.declared.hand.Hand.TheVariants as hand;
 ghost use Rattle.seq_turns.specs.Machines.{copies_after};
 ghost use Rattle.seq_turns.specs.Machines.Turn.{Moves};
 ghost use Rattle.seq_turns.specs.Recoveries.{recovery_move};
-ghost use Rattle.seq_turns.specs.Processors.{runs, turn};
+ghost use Rattle.seq_turns.specs.Causes.{finds};
+ghost use Rattle.seq_turns.specs.Processors.{runs, acquisition, turn};
 ghost use Rattle.seq_turns.specs.Events.{happens};
-ghost use Rattle.seq_turns.specs.Reading.{copied_memory};
+ghost use Rattle.seq_turns.specs.Reading.{lock_word, copied_memory};
 ghost use Rattle.seq_machine.specs.Here.{here, turned, change_of};
-ghost use Rattle.seq_machine.specs.Needs.{IsOperating, NeedsOf, RecoveryNeeds};
+ghost use Rattle.seq_machine.specs.Needs.{MayBeSaved, IsOperating, NeedsOf, RecoveryNeeds};
 ghost use Rattle.seq_machine.specs.Plain.{Outside, IsHardware, processor_of, machine_of, outside_of};
 ghost use Rattle.seq_machine.specs.Settling.{held_copies};
 ghost use Rattle.seq_machine.specs.Checking.{answer};
@@ -27,14 +29,16 @@ use crate::runs::{Ran, acquire, run};
 use crate::seeks::seek;
 use crate::turned::Turned;
 use crate::{Hardware, Note, Processor, Stop};
+use seq_kernel::Cause;
 use seq_layout::Layout;
 use seq_memory::Memories;
 use seq_turns::Hand;
-use seq_words::{Element, Event, MachineDesc, Pe};
+use seq_words::{Element, Event, MachineDesc, Pe, Seg};
 use std::mem;
 
 impl Processor {
     /// Stops: what the processor is about is lost, and so are its changes.
+    #[inline(never)]
     pub(crate) fn stop(&mut self)
         ensures hand { self.new.hand ≡ Hand.Down }
         ensures cache { self.new.cache ≡ record self.old.cache { changes = [] } }
@@ -61,7 +65,61 @@ impl Processor {
         }
     }
 
+    // A cause is found for the process that the processor runs, which releases the segments of the mask.
+    #[inline(never)]
+    fn leave(
+        &mut self,
+        cause: Cause,
+        mask: u16,
+        pe: Pe,
+        incarnation: u64,
+        desc: &MachineDesc,
+    ) -> Option<Note>
+        requires description { IsDescription desc.now }
+        requires process { (r : Running) × (self.old.hand ≡ hand.Running r) × MayBeSaved r }
+        ensures hand { (r : Running) (p : Copies) → self.old.hand ≡ hand.Running r → self.new.hand ≡ hand_left (turned (finds desc.now (here p self.old.cache incarnation) pe.0 r self.old.cache cause mask)) }
+        ensures cache { (r : Running) (p : Copies) → self.old.hand ≡ hand.Running r → self.new.cache ≡ cache_left (turned (finds desc.now (here p self.old.cache incarnation) pe.0 r self.old.cache cause mask)) self.old.cache }
+        ensures note { (r : Running) (p : Copies) → self.old.hand ≡ hand.Running r → result ≡ note_left (turned (finds desc.now (here p self.old.cache incarnation) pe.0 r self.old.cache cause mask)) }
+    {
+        let Hand::Running(running) = &self.hand else {
+            unreachable!();
+        };
+        let turned = found(*running, cause, mask, pe, incarnation, desc);
+        self.take(turned)
+    }
+
+    // The process that the processor runs acquires a segment: the first turn of the claim of its lock.
+    #[inline(never)]
+    fn acquire(
+        &mut self,
+        segment: Seg,
+        pe: Pe,
+        incarnation: u64,
+        memories: &mut Memories,
+        layout: &Layout,
+        desc: &MachineDesc,
+    ) -> Option<Note>
+        requires description { IsDescription desc.now }
+        requires layout { layout.now ≡ shape_of desc.now }
+        requires matches { Matches layout.now memories.old }
+        requires segment { segment.0 < length desc.now.segments }
+        requires named { word_at (copies layout.now memories.old) (lock_word desc.now segment.0) false ≤ length desc.now.processes }
+        requires process { (r : Running) × (self.old.hand ≡ hand.Running r) × MayBeSaved r }
+        ensures hand { (r : Running) → self.old.hand ≡ hand.Running r → self.new.hand ≡ hand_left (turned (acquisition desc.now (here (copies layout.now memories.old) self.old.cache incarnation) pe.0 r segment)) }
+        ensures cache { (r : Running) → self.old.hand ≡ hand.Running r → self.new.cache ≡ cache_left (turned (acquisition desc.now (here (copies layout.now memories.old) self.old.cache incarnation) pe.0 r segment)) self.old.cache }
+        ensures note { (r : Running) → self.old.hand ≡ hand.Running r → result ≡ note_left (turned (acquisition desc.now (here (copies layout.now memories.old) self.old.cache incarnation) pe.0 r segment)) }
+        ensures copies { (r : Running) → self.old.hand ≡ hand.Running r → copies layout.now memories.new ≡ copies_after (change_of (acquisition desc.now (here (copies layout.now memories.old) self.old.cache incarnation) pe.0 r segment)) (copies layout.now memories.old) }
+        ensures matches { Matches layout.now memories.new }
+    {
+        let Hand::Running(running) = &self.hand else {
+            unreachable!();
+        };
+        let turned = acquire(*running, segment, pe, incarnation, memories, layout, desc);
+        self.take(turned)
+    }
+
     // A turn of a processor that runs a process. The process stays where it stands, unless it leaves the processor.
+    #[inline(always)]
     fn run(
         &mut self,
         pe: Pe,
@@ -82,24 +140,21 @@ impl Processor {
         let Hand::Running(running) = &mut self.hand else {
             unreachable!();
         };
-        let turned = match run(running, &mut self.cache, memories, layout, desc) {
-            Ran::Goes => return Some(Note::Ran(running.pid)),
-            Ran::Leaves(cause, mask) => found(*running, cause, mask, pe, incarnation, desc),
-            Ran::Acquires(segment) => acquire(
-                *running,
-                segment,
-                pe,
-                incarnation,
-                memories,
-                layout,
-                desc,
-            ),
-            Ran::Stops => Turned::Stopped,
-        };
-        self.take(turned)
+        match run(running, &mut self.cache, memories, layout, desc) {
+            Ran::Goes => Some(Note::Ran(running.pid)),
+            Ran::Leaves(cause, mask) => self.leave(cause, mask, pe, incarnation, desc),
+            Ran::Acquires(segment) => {
+                self.acquire(segment, pe, incarnation, memories, layout, desc)
+            }
+            Ran::Stops => {
+                self.stop();
+                None
+            }
+        }
     }
 
     // A turn of a processor that is amid an operation.
+    #[inline(never)]
     fn operate(
         &mut self,
         pe: Pe,
@@ -132,6 +187,7 @@ impl Processor {
     }
 
     // A turn of a processor that recovers a process.
+    #[inline(never)]
     fn recover(&mut self, memories: &mut Memories, layout: &Layout, desc: &MachineDesc) -> Note
         requires description { IsDescription desc.now }
         requires layout { layout.now ≡ shape_of desc.now }
@@ -151,6 +207,7 @@ impl Processor {
     }
 
     /// A turn of a processor: its note, or None where it stops since the halves of its process differ. It copies no memory.
+    #[inline(always)]
     pub fn turn(
         &mut self,
         cursor: &mut u8,
@@ -176,11 +233,15 @@ impl Processor {
         let incarnation = incarnations[pe.0 as usize];
         match &self.hand {
             Hand::Down => Some(Note::Nothing),
-            Hand::Seek => {
-                let (hand, note) = seek(cursor, pe, incarnations, memories, layout, desc);
-                self.hand = hand;
-                Some(note)
-            }
+            Hand::Seek => Some(seek(
+                &mut self.hand,
+                cursor,
+                pe,
+                incarnations,
+                memories,
+                layout,
+                desc,
+            )),
             Hand::Running(_) => self.run(pe, incarnation, memories, layout, desc),
             Hand::Recovering(_) => Some(self.recover(memories, layout, desc)),
             Hand::Claiming(_, _)
@@ -195,6 +256,7 @@ impl Processor {
 impl Hardware {
     // A turn of a processor by which no memory is copied. Where the halves of its process differ, it stops, and all that names it
     // names one that isn't live. The stop may be a machine check.
+    #[inline(always)]
     fn own_turn(&mut self, pe: Pe) -> Result<Note, Stop>
         requires hardware { IsHardware self.old }
         requires may { MayTurn self.old pe.0 }
@@ -228,6 +290,7 @@ impl Hardware {
     }
 
     /// A turn of a processor. While a memory is to be copied, one that seeks or runs copies the next unit of it, or waits.
+    #[inline(always)]
     pub(crate) fn processor_turn(&mut self, pe: Pe) -> Result<Note, Stop>
         requires hardware { IsHardware self.old }
         requires may { MayTurn self.old pe.0 }

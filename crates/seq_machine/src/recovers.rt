@@ -89,25 +89,27 @@ fn after_closing(step: Step<Recovery<Closing>, Recovered>) -> Hand
 }
 
 /// The first turn of the recovery of a process.
+#[inline(never)]
 pub fn begin(
+    hand: &mut Hand,
     pid: Pid,
     pe: Pe,
     incarnation: u64,
     memories: &mut Memories,
     layout: &Layout,
     desc: &MachineDesc,
-) -> Hand
+)
     requires layout { layout.now ≡ shape_of desc.now }
     requires matches { Matches layout.now memories.old }
     requires words { HaveRulingWords layout.now (copies layout.now memories.old) }
     requires process { pid.0 < length desc.now.processes }
     requires incarnation { incarnation < 2 ^ 48 }
-    ensures row { IsRow (copies layout.now memories.old) (copies layout.now memories.new) result (λ m p. recovers desc.now (here m.copies (m.cache p) incarnation) pe.0 pid.0) }
+    ensures row { IsRow (copies layout.now memories.old) (copies layout.now memories.new) hand.new (λ m p. recovers desc.now (here m.copies (m.cache p) incarnation) pe.0 pid.0) }
     ensures matches { Matches layout.now memories.new }
 {
     let forward = goes_forward(&ruling(pid, memories, layout));
     let recovery = Recovery::start(pid, Holder { pe, incarnation }, forward);
-    after_claimed(recovery.turn(memories, layout, desc))
+    *hand = after_claimed(recovery.turn(memories, layout, desc));
 }
 
 /// A turn of a recovery that has begun.

@@ -57,6 +57,7 @@ fn released(held: u16, cause: Cause) -> u16
 }
 
 // What a step comes to, of a process that held these segments.
+#[inline(always)]
 fn comes_to(held: u16, outcome: Outcome) -> Ran
     requires { (segment : Seg) → outcome ≡ Outcome.NeedsFlush (Cause.Release segment) → segment.0 < 16 }
     ensures { result ≡ comes_to held outcome }
@@ -72,6 +73,7 @@ fn comes_to(held: u16, outcome: Outcome) -> Ran
 
 /// A turn of a process that lives. It is left once it has taken as many steps as it may since its claim; else it takes its next
 /// step, and nothing is moved or made for it.
+#[inline(always)]
 pub fn run(
     running: &mut Running,
     cache: &mut Cache,

@@ -60,20 +60,22 @@ fn is_free(pid: Pid, memories: &Memories, layout: &Layout, desc: &MachineDesc) -
 
 // The first turn of the claim of a process that may be claimed.
 #[tactic(auto, using(crate::proofs::Seeking::claimed_is, seq_layout::proofs::Sizes::process_has_status), unfolding(seq_locks::specs::Turns::claim_primary))]
+#[inline(never)]
 fn claim(
+    hand: &mut Hand,
     pid: Pid,
     pe: Pe,
     incarnation: u64,
     memories: &mut Memories,
     layout: &Layout,
     desc: &MachineDesc,
-) -> Hand
+)
     requires layout { layout.now ≡ shape_of desc.now }
     requires matches { Matches layout.now memories.old }
     requires process { pid.0 < length desc.now.processes }
     requires incarnation { incarnation < 2 ^ 48 }
     requires untaken { is_taken layout.now (copies layout.now memories.old) (status_word pid.0) false ≡ false }
-    ensures hand { result ≡ Hand.Claiming pid (record { at = status_word pid.0; value = word_of (Run (record { pe = pe; incarnation = incarnation })); stage = record {} }) }
+    ensures hand { hand.new ≡ Hand.Claiming pid (record { at = status_word pid.0; value = word_of (Run (record { pe = pe; incarnation = incarnation })); stage = record {} }) }
     ensures copies { copies layout.now memories.new ≡ copies_after (write_word desc.now (copies layout.now memories.old) pid.0 0 false (word_of (Run (record { pe = pe; incarnation = incarnation })))) (copies layout.now memories.old) }
     ensures matches { Matches layout.now memories.new }
 {
@@ -83,7 +85,7 @@ fn claim(
     };
     let status = Status::Run(Holder { pe, incarnation });
     match Claim::start(at, to_word(&status)).turn(memories, layout) {
-        Claimed::Got(claim) => Hand::Claiming(pid, claim),
+        Claimed::Got(claim) => *hand = Hand::Claiming(pid, claim),
         Claimed::Refused(_) => unreachable!(),
     }
 }
@@ -91,13 +93,15 @@ fn claim(
 // A processor looks at the process under its cursor, and moves the cursor to the next one, cyclically. Where no processor holds
 // that process and its context says that it lives, this is the first turn of its claim.
 fn look(
+    hand: &mut Hand,
     cursor: &mut u8,
     pe: Pe,
     incarnation: u64,
     memories: &mut Memories,
     layout: &Layout,
     desc: &MachineDesc,
-) -> (Hand, Note)
+) -> Note
+    requires seeks { hand.old ≡ Hand.Seek }
     requires description { IsDescription desc.now }
     requires layout { layout.now ≡ shape_of desc.now }
     requires matches { Matches layout.now memories.old }
@@ -105,8 +109,8 @@ fn look(
     requires cursor { cursor.old < length desc.now.processes }
     requires incarnation { incarnation < 2 ^ 48 }
     requires untaken { (cache : Changes) (i : ℕ) → is_free desc.now (here (copies layout.now memories.old) cache i) cursor.old ≡ true → is_taken layout.now (copies layout.now memories.old) (status_word cursor.old) false ≡ false }
-    ensures hand { (cache : Changes) → result.0 ≡ (looks desc.now (here (copies layout.now memories.old) cache incarnation) pe.0 cursor.old).hand }
-    ensures note { (cache : Changes) → result.1 ≡ (looks desc.now (here (copies layout.now memories.old) cache incarnation) pe.0 cursor.old).note }
+    ensures hand { (cache : Changes) → hand.new ≡ (looks desc.now (here (copies layout.now memories.old) cache incarnation) pe.0 cursor.old).hand }
+    ensures note { (cache : Changes) → result ≡ (looks desc.now (here (copies layout.now memories.old) cache incarnation) pe.0 cursor.old).note }
     ensures copies { (cache : Changes) → copies layout.now memories.new ≡ copies_after (looks desc.now (here (copies layout.now memories.old) cache incarnation) pe.0 cursor.old).change (copies layout.now memories.old) }
     ensures cursor { cursor.new ≡ next_process desc.now cursor.old }
     ensures matches { Matches layout.now memories.new }
@@ -114,23 +118,26 @@ fn look(
     let pid = Pid(*cursor);
     *cursor = next_cursor(*cursor, layout.processes());
     if is_free(pid, memories, layout, desc) {
-        let hand = claim(pid, pe, incarnation, memories, layout, desc);
-        (hand, Note::Moved)
+        claim(hand, pid, pe, incarnation, memories, layout, desc);
+        Note::Moved
     } else {
-        (Hand::Seek, Note::Looked(pid))
+        Note::Looked(pid)
     }
 }
 
 /// A processor that seeks begins to recover the lowest process whose holder isn't live. Where there is none it looks at the process
 /// under its cursor, and claims it where it may.
+#[inline(never)]
 pub fn seek(
+    hand: &mut Hand,
     cursor: &mut u8,
     pe: Pe,
     incarnations: &[u64],
     memories: &mut Memories,
     layout: &Layout,
     desc: &MachineDesc,
-) -> (Hand, Note)
+) -> Note
+    requires seeks { hand.old ≡ Hand.Seek }
     requires description { IsDescription desc.now }
     requires layout { layout.now ≡ shape_of desc.now }
     requires matches { Matches layout.now memories.old }
@@ -138,7 +145,7 @@ pub fn seek(
     requires processor { pe.0 < desc.now.processors }
     requires incarnation { slice_index incarnations.now pe.0 < 2 ^ 48 }
     requires needs { SeekNeeds desc.now (copies layout.now memories.old) cursor.old }
-    ensures turned { (cache : Changes) → Moved result.0 result.1 ≡ turned (seeks_among desc.now (among (copies layout.now memories.old) cache (slice_index incarnations.now) cursor.old) pe.0) }
+    ensures turned { (cache : Changes) → Moved hand.new result ≡ turned (seeks_among desc.now (among (copies layout.now memories.old) cache (slice_index incarnations.now) cursor.old) pe.0) }
     ensures copies { (cache : Changes) → copies layout.now memories.new ≡ copies_after (change_of (seeks_among desc.now (among (copies layout.now memories.old) cache (slice_index incarnations.now) cursor.old) pe.0)) (copies layout.now memories.old) }
     ensures cursor { (cache : Changes) → cursor.new ≡ cursor_after (seeks_among desc.now (among (copies layout.now memories.old) cache (slice_index incarnations.now) cursor.old) pe.0) cursor.old }
     ensures matches { Matches layout.now memories.new }
@@ -146,9 +153,9 @@ pub fn seek(
     let incarnation = incarnations[pe.0 as usize];
     match deserted(incarnations, memories, layout, desc) {
         Some(pid) => {
-            let hand = begin(pid, pe, incarnation, memories, layout, desc);
-            (hand, Note::Moved)
+            begin(hand, pid, pe, incarnation, memories, layout, desc);
+            Note::Moved
         }
-        None => look(cursor, pe, incarnation, memories, layout, desc),
+        None => look(hand, cursor, pe, incarnation, memories, layout, desc),
     }
 }

@@ -32,6 +32,7 @@ fn strike(hand: &mut Hand, half: Half, reg: u8, mask: u32)
 
 impl Hardware {
     /// Inverts the bits of a register of one half of the process that a processor runs, where `mask` has a one.
+    #[inline(never)]
     pub(crate) fn upset(&mut self, pe: Pe, half: Half, reg: u8, mask: u32)
         requires hardware { IsHardware self.old }
         requires allowed { StrikeAllowed self.old.desc (machine_of self.old no_outside) pe.0 half reg }

@@ -28,11 +28,11 @@ deserted-requires-clause-holders c =
     let there = subst (λ (s : Shape). AreHeldByOneOf c.args.desc.now.processors s p) (sym c.requires.layout) c.requires.needs.holders in
     subst (λ n. AreHeldByOneOf n c.args.layout.now p) (sym c.requires.processors) there
 
-pub begin-hand-requires-clause-words : goal.begin-hand-requires-clause-words
-begin-hand-requires-clause-words c = subst (λ (s : Shape). HaveRulingWords s (copies c.args.layout.now c.args.memories.now)) (sym c.requires.layout) c.requires.needs.words
+pub begin-requires-clause-words : goal.begin-requires-clause-words
+begin-requires-clause-words c = subst (λ (s : Shape). HaveRulingWords s (copies c.args.layout.now c.args.memories.now)) (sym c.requires.layout) c.requires.needs.words
 
-pub begin-hand-requires-clause-process : goal.begin-hand-requires-clause-process
-begin-hand-requires-clause-process c =
+pub begin-requires-clause-process : goal.begin-requires-clause-process
+begin-requires-clause-process c =
     let m = among (copies c.args.layout.now c.args.memories.now) empty (slice_index c.args.incarnations.now) c.args.cursor.now in
     found_within c.args.desc.now m c.in-Some.pid.0 (found_is (deserted c.args.desc.now m) c.in-Some.pid (c.in-Some.ensures empty c.args.cursor.now))
 
@@ -45,7 +45,7 @@ returns-in-Some-clause-turned c cache =
     let q = c.in-Some.pid.0 in
     let found : deserted d m ≡ Some q = found_is (deserted d m) c.in-Some.pid (c.in-Some.ensures cache c.args.cursor.now) in
     let silent = claimed_recovers d m pe (begins m pe q (goes_forward (ruling d p q))) in
-    let hand : c.begin-hand.result ≡ (recovers d m pe q).hand = c.begin-hand.ensures.row.hands (here p cache 0) 0 in
+    let hand : c.begin.new.hand ≡ (recovers d m pe q).hand = c.begin.ensures.row.hands (here p cache 0) 0 in
     (λ j. Moved (hand j) (sym silent.note j)) ∙ ap (λ (x : Option ℕ). turned (seeks d m pe x)) (sym found)
 
 pub returns-in-Some-clause-copies : goal.returns-in-Some-clause-copies
@@ -54,7 +54,7 @@ returns-in-Some-clause-copies c cache =
     let p = copies c.args.layout.now c.args.memories.now in
     let m = among p cache (slice_index c.args.incarnations.now) c.args.cursor.now in
     let found : deserted d m ≡ Some c.in-Some.pid.0 = found_is (deserted d m) c.in-Some.pid (c.in-Some.ensures cache c.args.cursor.now) in
-    c.begin-hand.ensures.row.copies (here p cache 0) 0 ∙ ap (λ (x : Option ℕ). copies_after (change_of (seeks d m c.args.pe.0 x)) p) (sym found)
+    c.begin.ensures.row.copies (here p cache 0) 0 ∙ ap (λ (x : Option ℕ). copies_after (change_of (seeks d m c.args.pe.0 x)) p) (sym found)
 
 pub returns-in-Some-clause-cursor : goal.returns-in-Some-clause-cursor
 returns-in-Some-clause-cursor c cache =

@@ -13,7 +13,7 @@ returns-in-Seek-clause-processor c =
     let d = c.args.desc.now in
     let cache = c.args.self.now.cache in
     let m = among (copies c.args.layout.now c.args.memories.now) cache (slice_index c.args.incarnations.now) c.args.cursor.now in
-    rw c.in-Seek.is (λ j. record { hand = ap hand_left (c.seek-hand.ensures.turned cache) j; cache = sym (seeks_cache d m c.args.pe.0 (deserted d m)) j })
+    rw c.in-Seek.is (λ j. record { hand = ap hand_left (c.seek.ensures.turned cache) j; cache = sym (seeks_cache d m c.args.pe.0 (deserted d m)) j })
 
 pub returns-in-Running-clause-cursor : goal.returns-in-Running-clause-cursor
 returns-in-Running-clause-cursor c =
