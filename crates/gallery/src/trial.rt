@@ -1,7 +1,8 @@
 // The trial of one command: it is given over files, lines, a history and a sink in memory, and what comes of it is compared.
-ghost use Rattle.std.specs.Prelude.{◌≡◌, ℕ, List, length, Some, IfOk, slice_get};
+ghost use Rattle.std.specs.Prelude.{◌≡◌, ℕ, List, length, map as list_map, string_bytes, Some, IfOk, slice_get};
 ghost use Rattle.seq_shelf.specs.Outlets.{view, views, marks};
 ghost use Rattle.seq_shelf.specs.Rows.{AreFresh};
+ghost use Rattle.gallery.specs.declared.finding.Finding.TheVariants.{AsExpected};
 
 use crate::examples::Example;
 use crate::finding::Finding;
@@ -71,7 +72,9 @@ fn shelf_of<S: Shelf>(
     Ok(shelf)
 }
 
-fn words_of(alloc: Global, words: &[&str]) -> Result<Vec<String>, AllocError> {
+fn words_of(alloc: Global, words: &[&str]) -> Result<Vec<String>, AllocError>
+    ensures { IfOk result (λ all. list_map string_bytes all.items ≡ list_map (λ w. w.now) words.now) }
+{
     let mut all = Vec::new(alloc);
     for word in words {
         all.push(String::from_str(alloc, word)?)?;
@@ -238,7 +241,9 @@ fn compare<S: Shelf>(
     example: &Example,
     left: &Left,
     lines: &Vec<Outlet>,
-) -> Result<Finding, Trouble> {
+) -> Result<Finding, Trouble>
+    ensures status { IfOk result (λ finding. finding ≡ AsExpected → left.now.status ≡ example.now.status) }
+{
     if left.status != example.status {
         return Ok(Finding::Status(left.status));
     }

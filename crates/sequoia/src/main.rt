@@ -1,9 +1,10 @@
 //! The program: it makes the real outside, and hands it with the words of the command line to the top call.
 #![tactic(auto)]
 
-ghost use Rattle.std.specs.Prelude.{◌≡◌, length};
+ghost use Rattle.std.specs.Prelude.{◌≡◌, ◌++◌, length, drop, codes, decimal, string_bytes, IfOk};
 ghost use Rattle.std.specs.IoError.{error_kind};
 ghost use Rattle.std.specs.Process.{exit_status};
+ghost use Rattle.std.specs.Vec.Iter.{into_iter_items};
 ghost use Rattle.seq_report.specs.Numbers.{number_of};
 ghost use Rattle.sequoia.specs.Words.{unread_status};
 ghost use Rattle.seq_shelf.specs.Outlets.{views, marks};
@@ -12,7 +13,7 @@ ghost use Rattle.seq_shelf.specs.Rows.{AreFresh};
 use seq_cli::{Status, add_line, number, print_usage, sequoia};
 use seq_shelf::{FileLine, FileShelf, OutSink, SoundChronicle, open_output};
 use std::alloc::{AllocError, Global};
-use std::env::Env;
+use std::env::{Args, Env};
 use std::io::ErrorKind;
 use std::process::ExitCode;
 use std::{env, io};
@@ -30,23 +31,25 @@ fn unread(error: &io::Error) -> Status
     }
 }
 
+// The words behind the program's name.
+fn behind_name(alloc: Global, all: Args) -> Result<Vec<String>, AllocError>
+    ensures { IfOk result (λ words. words.items ≡ drop 1 (into_iter_items all)) }
+{
+    all.skip(1).collect(alloc)
+}
+
 // The words after the program's name: usage where one of them isn't UTF-8.
 fn read_words(rt: &(impl Env + AllocGlobal), alloc: Global) -> Result<Vec<String>, Status> {
-    let all = match env::args(rt) {
-        Ok(all) => all,
-        Err(error) => return Err(unread(&error)),
-    };
-    let mut words = Vec::new(alloc);
-    for word in all.skip(1) {
-        if words.push(word).is_err() {
-            return Err(Status::NoMemory);
-        }
+    match env::args(rt) {
+        Ok(all) => behind_name(alloc, all).map_err(|_| Status::NoMemory),
+        Err(error) => Err(unread(&error)),
     }
-    Ok(words)
 }
 
 // The file of a line's output.
-fn line_file(alloc: Global, line: u8) -> Result<String, AllocError> {
+fn line_file(alloc: Global, line: u8) -> Result<String, AllocError>
+    ensures { IfOk result (λ name. string_bytes name ≡ codes "line" ++ decimal line ++ codes ".out") }
+{
     format!(in alloc; "line{line}.out")
 }
 
