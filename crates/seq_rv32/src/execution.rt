@@ -18,10 +18,11 @@ use crate::port::Port;
 use seq_isa::{Instr, decode, rs1, rs2};
 use seq_words::Regs;
 
-/// What an instruction would do with these registers at a port.
+/// What an instruction would do with these registers at a port. `APART` says nothing of it: it only parts the code for halves that
+/// differ in a source from the code of every other turn, which is compiled into the turn.
 #[tactic(auto, unfolding(seq_isa::specs::Meaning::outcome_of))]
 #[inline(always)]
-fn execute<P: Port>(instr: Instr, regs: &Regs, port: &P) -> Effect
+fn execute<P: Port, const APART: bool>(instr: Instr, regs: &Regs, port: &P) -> Effect
     requires { InRange instr }
     ensures value { result ≡ effect_of (P.admission port.now) (outcome_of regs.now (P.bytes port.now) instr) }
     ensures register { NamesRegister result }
@@ -217,14 +218,14 @@ fn execute<P: Port>(instr: Instr, regs: &Regs, port: &P) -> Effect
 
 // What a word would do as an instruction with these registers at a port.
 #[inline(always)]
-fn effect_of_word<P: Port>(word: u32, regs: &Regs, port: &P) -> Effect
+fn effect_of_word<P: Port, const APART: bool>(word: u32, regs: &Regs, port: &P) -> Effect
     ensures value { result ≡ effect_of (P.admission port.now) (outcome_if regs.now (P.bytes port.now) (decode_of word)) }
     ensures register { NamesRegister result }
     ensures store { StoreFits (P.admission port.now) result }
 {
     match decode(word) {
         None => Effect::Trap(2),
-        Some(instr) => execute(instr, regs, port),
+        Some(instr) => execute::<P, APART>(instr, regs, port),
     }
 }
 
@@ -238,7 +239,7 @@ fn effect_at_pc<P: Port>(regs: &Regs, port: &P) -> Effect
 {
     match port.fetch(regs.pc) {
         None => Effect::Trap(1),
-        Some(word) => effect_of_word(word, regs, port),
+        Some(word) => effect_of_word::<P, false>(word, regs, port),
     }
 }
 
@@ -291,7 +292,7 @@ fn effect_apart<P: Port>(word: u32, regs: &Regs, port: &P) -> Effect
     ensures register { NamesRegister result }
     ensures store { StoreFits (P.admission port.now) result }
 {
-    effect_of_word(word, regs, port)
+    effect_of_word::<P, true>(word, regs, port)
 }
 
 // What a word would do with each of two register sets, where that is the same: it is planned with both, and compared.
@@ -325,7 +326,7 @@ fn effect_on_both<P: Port>(word: u32, first: &Regs, second: &Regs, port: &P) -> 
     ensures store { IfSome result (StoreFits (P.admission port.now)) }
 {
     if hold_alike(word, first, second) {
-        Some(effect_of_word(word, first, port))
+        Some(effect_of_word::<P, false>(word, first, port))
     } else {
         effect_compared(word, first, second, port)
     }
