@@ -230,7 +230,7 @@ pub fn block_from(first: u8) -> Block
 }
 
 /// A line that has accepted so many bytes, or whose first call of `send` fails.
-pub fn line(alloc: Global, accepted: u16, fails: bool) -> Result<MemLine, Fail> {
+pub fn line(alloc: Global, accepted: u16, fails: bool) -> Result<Box<MemLine>, Fail> {
     let failing = if fails {
         Bytes::copy_of(alloc, &[0])?
     } else {
@@ -241,5 +241,5 @@ pub fn line(alloc: Global, accepted: u16, fails: bool) -> Result<MemLine, Fail> 
         let index = line.accepted();
         let _ = line.send(index, 7);
     }
-    Ok(line)
+    Ok(Box::new(alloc, line)?)
 }

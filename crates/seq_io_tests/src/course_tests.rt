@@ -103,23 +103,38 @@ fn port(alloc: Global, taken: u32, arrived: u32, closed: bool) -> Result<PortSta
     })
 }
 
-fn new_course(alloc: Global, before: &Before) -> Result<Course, Fail>
-    ensures matches { IfOk result (λ c. Matches c.layout c.memories) }
-    ensures wired { IfOk result (λ c. IsWired c.layout) }
+/// The ports of both lines.
+fn ports(alloc: Global, before: &Before) -> Result<Items<PortState>, Fail> {
+    let mut ports = Items::new(alloc);
+    ports.push(port(alloc, 0, 0, before.closed)?)?;
+    ports.push(port(alloc, 40, before.arrived.saturating_add(40), false)?)?;
+    Ok(ports)
+}
+
+/// An element with its ports, its memories and their layout.
+fn course_of(before: &Before, ports: Items<PortState>, memories: Memories, layout: Layout) -> Course
+    ensures memories { result.memories ≡ memories }
+    ensures layout { result.layout ≡ layout }
 {
-    let layout = layout_of(alloc, &three_memories(alloc)?)?;
-    let memories = memories(alloc, &layout, before)?;
-    let first = port(alloc, 0, 0, before.closed)?;
-    let second = port(alloc, 40, before.arrived.saturating_add(40), false)?;
-    Ok(Course {
+    Course {
         io: IoElement {
             up: before.up,
             cursor: before.cursor,
         },
-        ports: Items::from_vec(vec![in alloc; first, second]?),
+        ports,
         memories,
         layout,
-    })
+    }
+}
+
+fn new_course(alloc: Global, before: &Before) -> Result<Course, Fail>
+    ensures matches { IfOk result (λ c. Matches c.layout c.memories) }
+    ensures wired { IfOk result (λ c. IsWired c.layout) }
+{
+    let ports = ports(alloc, before)?;
+    let layout = layout_of(alloc, &three_memories(alloc)?)?;
+    let memories = memories(alloc, &layout, before)?;
+    Ok(course_of(before, ports, memories, layout))
 }
 
 fn take_turn(rt: &impl Abort, course: &mut Course, lines: &mut Vec<Outlet>, wanted: &Wanted)
@@ -172,6 +187,27 @@ fn given_up(course: &Course, line: usize) -> Option<u32> {
     Some(course.ports.as_slice().get(line)?.taken)
 }
 
+/// These turns are taken, and the words are then these, while the port of line 0 gave nothing up. Answers the byte of line 1's
+/// journal on memories 2 and 0.
+fn go_through(
+    rt: &impl Abort,
+    course: &mut Course,
+    lines: &mut Vec<Outlet>,
+    turns: &[Wanted],
+    words: &Words<'_>,
+) -> [Option<u8>; 2]
+    requires matches { Matches course.old.layout course.old.memories }
+    requires wired { IsWired course.old.layout }
+{
+    take_turns(rt, course, lines, turns);
+    hold(rt, &course.memories, words);
+    assert_eq!(rt; given_up(course, 0), Some(0));
+    [
+        journaled(&course.memories, 2, 30),
+        journaled(&course.memories, 0, 14),
+    ]
+}
+
 /// These turns are taken from there on, and the words are then these. Answers the byte of line 1's journal on memories 2 and 0.
 fn run(
     rt: &impl Abort,
@@ -180,23 +216,19 @@ fn run(
     turns: &[Wanted],
     words: &Words<'_>,
 ) -> Result<[Option<u8>; 2], Fail> {
-    let mut course = new_course(alloc, before)?;
-    let first = Outlet {
-        line: Box::new(alloc, line(alloc, 0, false)?)?,
+    let first = line(alloc, 0, false)?;
+    let second = line(alloc, 0, before.fails)?;
+    let mut lines: Vec<Outlet> = Vec::new(alloc);
+    lines.push(Outlet {
+        line: first,
         hung: false,
-    };
-    let second = Outlet {
-        line: Box::new(alloc, line(alloc, 0, before.fails)?)?,
+    })?;
+    lines.push(Outlet {
+        line: second,
         hung: before.hung,
-    };
-    let mut lines = vec![in alloc; first, second]?;
-    take_turns(rt, &mut course, &mut lines, turns);
-    hold(rt, &course.memories, words);
-    assert_eq!(rt; given_up(&course, 0), Some(0));
-    Ok([
-        journaled(&course.memories, 2, 30),
-        journaled(&course.memories, 0, 14),
-    ])
+    })?;
+    let mut course = new_course(alloc, before)?;
+    Ok(go_through(rt, &mut course, &mut lines, turns, words))
 }
 
 const NOTHING: Result<IoNote, (LineNo, LineError)> = Ok(IoNote::Nothing);

@@ -1,6 +1,7 @@
 // Turns of an I/O element at line 0 of process 0, on two memories. The primaries of both are on memory 0, the shadows on memory 1.
-ghost use Rattle.std.specs.Prelude.{◌≡◌, ◌<◌, length, IfOk};
+ghost use Rattle.std.specs.Prelude.{◌<◌, IfOk};
 ghost use Rattle.seq_layout.specs.Copies.{Matches};
+ghost use Rattle.seq_io.specs.Bounds.{IsWired};
 
 use crate::bench::{
     block_from, bytes_from, layout_of, line, may_turn, put_block, put_number, put_word, take_away,
@@ -134,13 +135,14 @@ fn memories(alloc: Global, layout: &Layout, scene: &Scene) -> Result<Memories, F
 
 /// The port of the line, alone.
 fn ports(alloc: Global, scene: &Scene) -> Result<Items<PortState>, Fail> {
-    let port = PortState {
+    let mut ports = Items::new(alloc);
+    ports.push(PortState {
         taken: scene.taken,
         arrived: scene.arrived,
         store: Bytes::copy_of(alloc, &bytes_from(200))?,
         closed: scene.closed,
-    };
-    Ok(Items::from_vec(vec![in alloc; port]?))
+    })?;
+    Ok(ports)
 }
 
 /// What a memory holds of the line, with its journal's byte at an index.
@@ -172,31 +174,48 @@ fn what_is_left(
     })
 }
 
-/// A turn in a scene, with its outlet: None where the scene is outside the turn's bounds.
-fn turned_with(alloc: Global, scene: &Scene, lines: &mut Vec<Outlet>) -> Result<Option<Left>, Fail>
-    requires { length lines.old.items ≡ 1 }
+/// A turn of the element on these memories: None where it is outside the turn's bounds.
+fn turn_there(
+    scene: &Scene,
+    ports: &mut Items<PortState>,
+    memories: &mut Memories,
+    layout: &Layout,
+    lines: &mut Vec<Outlet>,
+) -> Option<Left>
+    requires matches { Matches layout.now memories.old }
+    requires wired { IsWired layout.now }
 {
-    let layout = layout_of(alloc, &one_line(alloc)?)?;
-    let mut memories = memories(alloc, &layout, scene)?;
-    let mut ports = ports(alloc, scene)?;
     let mut io = IoElement {
         up: scene.up,
         cursor: 0,
     };
-    if !may_turn(&io, &ports, &memories, &layout) || layout.lines() > 1 {
-        return Ok(None);
+    if !may_turn(&io, ports, memories, layout) || layout.lines() > lines.len() {
+        return None;
     }
-    let note = turn(&mut io, &mut ports, &mut memories, &layout, lines);
-    Ok(what_is_left(note, &memories, ports.as_slice(), lines, scene.taken))
+    let note = turn(&mut io, ports, memories, layout, lines);
+    what_is_left(note, memories, ports.as_slice(), lines, scene.taken)
+}
+
+/// A turn in a scene with these outlets.
+fn turned_with(
+    alloc: Global,
+    scene: &Scene,
+    lines: &mut Vec<Outlet>,
+) -> Result<Option<Left>, Fail> {
+    let mut ports = ports(alloc, scene)?;
+    let layout = layout_of(alloc, &one_line(alloc)?)?;
+    let mut memories = memories(alloc, &layout, scene)?;
+    Ok(turn_there(scene, &mut ports, &mut memories, &layout, lines))
 }
 
 /// A turn in a scene.
 fn turned(alloc: Global, scene: &Scene) -> Result<Option<Left>, Fail> {
-    let outlet = Outlet {
-        line: Box::new(alloc, line(alloc, scene.accepted, scene.fails)?)?,
+    let line = line(alloc, scene.accepted, scene.fails)?;
+    let mut lines: Vec<Outlet> = Vec::new(alloc);
+    lines.push(Outlet {
+        line,
         hung: scene.hung,
-    };
-    let mut lines = vec![in alloc; outlet]?;
+    })?;
     turned_with(alloc, scene, &mut lines)
 }
 
