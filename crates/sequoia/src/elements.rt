@@ -1,28 +1,7 @@
 // Elements that fail, or are struck, at every moment of a small run on two processors, two memories and two I/O elements.
-ghost use Rattle.std.specs.Prelude.{◌≡◌, length};
-ghost use Rattle.seq_shelf.specs.Outlets.{views, marks};
-ghost use Rattle.seq_shelf.specs.Rows.{AreFresh};
-
 use super::*;
-use crate::runs::{PAIR, are_entries, has_accepted, run_on, shelf_of};
-use crate::tests::{NONE, failing_line};
-use seq_shelf::{Line, Outlet};
+use crate::runs::comes_through;
 use std::test::Fail;
-
-// Runs a schedule: whether the byte is sent, and the steps are committed once.
-fn comes_through(alloc: Global, schedule: &[u8], lines: &mut Vec<Outlet>) -> Result<bool, Fail>
-    requires sixteen { length lines.old.items ≡ 16 }
-    requires fresh { AreFresh (views line lines.old.items) (marks lines.old.items) }
-{
-    let mut shelf = shelf_of(alloc, PAIR, schedule, NONE)?;
-    let (status, chronicle) = run_on(alloc, &mut shelf, NONE, lines)?;
-    Ok(
-        status == Status::Done
-            && are_entries(chronicle.pairs(), &[(0, 8)])
-            && has_accepted(lines, 0, &[0x41])
-            && has_accepted(lines, 1, &[]),
-    )
-}
 
 // Rounds, event by event, up to so many events, and what follows them.
 fn events_and(alloc: Global, events: u64, then: &'static str) -> Result<Vec<u8>, AllocError> {
@@ -42,7 +21,7 @@ fn events_and(alloc: Global, events: u64, then: &'static str) -> Result<Vec<u8>,
 
 // What follows some events of the run, which has at most 160: a memory fails and is copied again, or one or both of the I/O elements
 // fail, one of them for good.
-const FAILURES: [&str; 6] = [
+static FAILURES: [&str; 6] = [
     "fail m0\nrepair m0\nround 720\nfinish 10000\n",
     "fail m1\nrepair m1\nround 720\nfinish 10000\n",
     "fail i0\nfinish 10000\n",
@@ -52,25 +31,17 @@ const FAILURES: [&str; 6] = [
 ];
 
 // Runs one of the failures behind so many events.
-fn outlives(alloc: Global, number: u64, lines: &mut Vec<Outlet>) -> Result<bool, Fail>
-    requires sixteen { length lines.old.items ≡ 16 }
-    requires fresh { AreFresh (views line lines.old.items) (marks lines.old.items) }
-{
+fn outlives(alloc: Global, number: u64) -> Result<bool, Fail> {
     let failures = FAILURES[(number % 6) as usize];
     let schedule = events_and(alloc, number / 6, failures)?;
-    comes_through(alloc, schedule.as_slice(), lines)
+    comes_through(alloc, schedule.as_slice())
 }
 
 #[test]
 fn memories_and_io_elements_fail_at_every_event(rt: HostRuntime) -> Result<(), Fail> {
     let alloc = rt.alloc();
     for number in 0u64..966 {
-        let mut lines = Vec::new(alloc);
-        for n in 0u8..16 {
-            let line = failing_line(alloc, &[])?;
-            add_line(&mut lines, Box::new(alloc, line)?)?;
-        }
-        assert!(rt; outlives(alloc, number, &mut lines)?, "{}", number);
+        assert!(rt; outlives(alloc, number)?, "{}", number);
     }
     Ok(())
 }
@@ -89,12 +60,9 @@ fn strike_behind(alloc: Global, turns: u64, strike: u64) -> Result<String, Alloc
 }
 
 // Runs one of the 64 strikes behind so many turns.
-fn is_recovered(alloc: Global, number: u64, lines: &mut Vec<Outlet>) -> Result<bool, Fail>
-    requires sixteen { length lines.old.items ≡ 16 }
-    requires fresh { AreFresh (views line lines.old.items) (marks lines.old.items) }
-{
+fn is_recovered(alloc: Global, number: u64) -> Result<bool, Fail> {
     let schedule = strike_behind(alloc, number / 64, number % 64)?;
-    comes_through(alloc, schedule.as_bytes(), lines)
+    comes_through(alloc, schedule.as_bytes())
 }
 
 // Alone a processor takes 36 turns: each of the strikes after each of them, and before the first.
@@ -102,12 +70,7 @@ fn is_recovered(alloc: Global, number: u64, lines: &mut Vec<Outlet>) -> Result<b
 fn a_register_is_struck_at_every_turn(rt: HostRuntime) -> Result<(), Fail> {
     let alloc = rt.alloc();
     for number in 0u64..2368 {
-        let mut lines = Vec::new(alloc);
-        for n in 0u8..16 {
-            let line = failing_line(alloc, &[])?;
-            add_line(&mut lines, Box::new(alloc, line)?)?;
-        }
-        assert!(rt; is_recovered(alloc, number, &mut lines)?, "{}", number);
+        assert!(rt; is_recovered(alloc, number)?, "{}", number);
     }
     Ok(())
 }

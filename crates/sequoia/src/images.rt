@@ -1,13 +1,10 @@
 // Commands that assemble a source or list an image, with the files in memory.
-ghost use Rattle.std.specs.Prelude.{◌≡◌, length};
-ghost use Rattle.seq_shelf.specs.Outlets.{views, marks};
-ghost use Rattle.seq_shelf.specs.Rows.{AreFresh};
-
 use super::*;
 use crate::prints::USAGE;
-use crate::tests::{HELLO, failing_line, words_of};
-use seq_shelf::{Line, MemChronicle, MemShelf, MemSink, Outlet, accepted};
-use seq_words::Bytes;
+use crate::tests::{File, HELLO, Left, NONE, give, put_files, shelf_of};
+use seq_shelf::{MemShelf, MemSink};
+use seq_words::{Bytes, NoMemory};
+use std::process::Abort;
 use std::test::Fail;
 
 const ADD: &str = "addi x1, x0, 5\n";
@@ -47,7 +44,7 @@ struct Row {
 
 const ASSEMBLE: &[&str] = &["asm", "b.s", "a.sqi"];
 
-const ROWS: [Row; 20] = [
+static ROWS: [Row; 20] = [
     Row {
         words: ASSEMBLE,
         source: ADD,
@@ -259,16 +256,25 @@ fn holds(shelf: &MemShelf, name: &str, wanted: Option<&[u8]>) -> bool {
     }
 }
 
-fn row_of(number: usize) -> Option<Row> {
-    ROWS.get(number).copied()
-}
+static IMAGES: [File<'static>; 2] = [
+    File {
+        name: "hello.sqi",
+        content: &HELLO,
+    },
+    File {
+        name: "add.sqi",
+        content: ADD_IMAGE,
+    },
+];
 
 // The files that a command of a row finds.
-fn shelf_of(alloc: Global, row: &Row) -> Result<MemShelf, Fail> {
-    let mut shelf = MemShelf::new(alloc, Bytes::copy_of(alloc, row.failing)?);
-    shelf.put("b.s", row.source.as_bytes())?;
-    shelf.put("hello.sqi", &HELLO)?;
-    shelf.put("add.sqi", ADD_IMAGE)?;
+fn shelf_for(alloc: Global, row: &Row) -> Result<MemShelf, NoMemory> {
+    let source = File {
+        name: "b.s",
+        content: row.source.as_bytes(),
+    };
+    let mut shelf = shelf_of(alloc, &[source], row.failing)?;
+    put_files(&mut shelf, &IMAGES)?;
     Ok(shelf)
 }
 
@@ -277,38 +283,31 @@ fn has_files(shelf: &MemShelf, row: &Row) -> bool {
     holds(shelf, "a.sqi", row.stored) && holds(shelf, "b.s", Some(row.source.as_bytes()))
 }
 
-// Gives the command of a row: whether its status, its text and its files are as wanted, and lines and chronicle as before.
-fn is_answered(alloc: Global, number: usize, lines: &mut Vec<Outlet>) -> Result<bool, Fail>
-    requires sixteen { length lines.old.items ≡ 16 }
-    requires fresh { AreFresh (views line lines.old.items) (marks lines.old.items) }
-{
-    let Some(row) = row_of(number) else {
-        return Ok(false);
-    };
-    let mut shelf = shelf_of(alloc, &row)?;
+// Whether status, text and files are as wanted, and lines and chronicle as before.
+fn is_left(left: &Left, shelf: &MemShelf, text: &[u8], row: &Row) -> bool {
+    left.status == row.status
+        && left.first.accepted == 0
+        && left.chronicle.pairs().is_empty()
+        && text == row.text.as_bytes()
+        && has_files(shelf, row)
+}
+
+// Gives the command of a row: whether it is answered as wanted.
+fn is_answered(alloc: Global, row: &Row) -> Result<bool, Fail> {
+    let mut shelf = shelf_for(alloc, row)?;
     let mut sink = MemSink::new(alloc, Bytes::copy_of(alloc, row.writes)?);
-    let mut chronicle = MemChronicle::new(alloc, Bytes::new(alloc));
-    let words = words_of(alloc, row.words)?;
-    let status = sequoia(alloc, &words, &mut shelf, lines, &mut chronicle, &mut sink);
-    Ok(
-        status == row.status
-            && accepted(lines, 0) == 0
-            && sink.bytes() == row.text.as_bytes()
-            && chronicle.pairs().is_empty()
-            && has_files(&shelf, &row),
-    )
+    let left = give(alloc, row.words, &mut shelf, &NONE, &mut sink)?;
+    Ok(is_left(&left, &shelf, sink.bytes(), row))
+}
+
+fn are_answered(rt: &impl Abort, alloc: Global, rows: &[Row]) -> Result<(), Fail> {
+    for (number, row) in rows.iter().enumerate() {
+        assert!(rt; is_answered(alloc, row)?, "{}", number);
+    }
+    Ok(())
 }
 
 #[test]
 fn images_are_stored(rt: HostRuntime) -> Result<(), Fail> {
-    let alloc = rt.alloc();
-    for number in 0..ROWS.len() {
-        let mut lines = Vec::new(alloc);
-        for n in 0u8..16 {
-            let line = failing_line(alloc, &[])?;
-            add_line(&mut lines, Box::new(alloc, line)?)?;
-        }
-        assert!(rt; is_answered(alloc, number, &mut lines)?, "{}", number);
-    }
-    Ok(())
+    are_answered(&rt, rt.alloc(), &ROWS)
 }

@@ -1,13 +1,10 @@
 // What runs print, byte by byte.
-ghost use Rattle.std.specs.Prelude.{◌≡◌, length};
-ghost use Rattle.seq_shelf.specs.Outlets.{views, marks};
-ghost use Rattle.seq_shelf.specs.Rows.{AreFresh};
-
 use super::*;
 use crate::runs::{HELLO, HELLO3_IMAGE, LOOP_IMAGE, PAIR, SPREAD_IMAGE, TRAP_IMAGE};
-use crate::tests::{Failing, HELLO as HELLO_IMAGE, NONE, failing_line, words_of};
-use seq_shelf::{Line, MemChronicle, MemShelf, MemSink, Outlet, accepted};
-use seq_words::{Blocker, Bytes, Element, LineNo, Me, Pe, Pid};
+use crate::tests::{Failing, File, HELLO as HELLO_IMAGE, Left, NONE, give, shelf_of};
+use seq_shelf::{MemShelf, MemSink};
+use seq_words::{Blocker, Bytes, Element, LineNo, Me, NoMemory, Pe, Pid};
+use std::process::Abort;
 use std::test::Fail;
 
 pub(crate) const USAGE: &str =
@@ -40,9 +37,7 @@ struct Print {
     text: &'static str,
 }
 
-const PRINT_COUNT: usize = 17;
-
-const PRINTS: [Print; PRINT_COUNT] = [
+static PRINTS: [Print; 17] = [
     Print {
         words: RUN,
         machine: HELLO,
@@ -265,59 +260,46 @@ const PRINTS: [Print; PRINT_COUNT] = [
     },
 ];
 
-fn row_of(number: usize) -> Option<Print> {
-    PRINTS.get(number).copied()
-}
-
-// The calls of `send` that are to fail in a row.
-fn sends_of(number: usize) -> &'static [u8] {
-    match row_of(number) {
-        Some(row) => row.failing.sends,
-        None => &[],
-    }
-}
-
 // The files of a row.
-fn shelf_of(alloc: Global, row: &Print) -> Result<MemShelf, Fail> {
-    let mut shelf = MemShelf::new(alloc, Bytes::copy_of(alloc, row.failing.loads)?);
-    shelf.put("m.txt", row.machine.as_bytes())?;
-    shelf.put("s.txt", row.schedule.as_bytes())?;
+fn shelf_for(alloc: Global, row: &Print) -> Result<MemShelf, NoMemory> {
+    let files = [
+        File {
+            name: "m.txt",
+            content: row.machine.as_bytes(),
+        },
+        File {
+            name: "s.txt",
+            content: row.schedule.as_bytes(),
+        },
+    ];
+    let mut shelf = shelf_of(alloc, &files, row.failing.loads)?;
     if let Some(image) = row.image {
         shelf.put("hello.sqi", image)?;
     }
     Ok(shelf)
 }
 
-// Gives the command of a row: whether it ends so, with so many bytes on line 0, and prints the text.
-fn prints(alloc: Global, number: usize, lines: &mut Vec<Outlet>) -> Result<bool, Fail>
-    requires sixteen { length lines.old.items ≡ 16 }
-    requires fresh { AreFresh (views line lines.old.items) (marks lines.old.items) }
-{
-    let Some(row) = row_of(number) else {
-        return Ok(false);
-    };
-    let mut shelf = shelf_of(alloc, &row)?;
-    let mut chronicle = MemChronicle::new(alloc, Bytes::copy_of(alloc, row.failing.appends)?);
+// Whether it ended so, with so many bytes on line 0, and printed the text.
+fn is_left(left: &Left, text: &[u8], row: &Print) -> bool {
+    left.status == row.status && left.first.accepted == row.accepted && text == row.text.as_bytes()
+}
+
+// Gives the command of a row: whether it prints as wanted.
+fn prints(alloc: Global, row: &Print) -> Result<bool, Fail> {
+    let mut shelf = shelf_for(alloc, row)?;
     let mut sink = MemSink::new(alloc, Bytes::copy_of(alloc, row.writes)?);
-    let words = words_of(alloc, row.words)?;
-    let status = sequoia(alloc, &words, &mut shelf, lines, &mut chronicle, &mut sink);
-    Ok(
-        status == row.status
-            && accepted(lines, 0) == row.accepted
-            && sink.bytes() == row.text.as_bytes(),
-    )
+    let left = give(alloc, row.words, &mut shelf, &row.failing, &mut sink)?;
+    Ok(is_left(&left, sink.bytes(), row))
+}
+
+fn all_print(rt: &impl Abort, alloc: Global, rows: &[Print]) -> Result<(), Fail> {
+    for (number, row) in rows.iter().enumerate() {
+        assert!(rt; prints(alloc, row)?, "{}", number);
+    }
+    Ok(())
 }
 
 #[test]
 fn texts(rt: HostRuntime) -> Result<(), Fail> {
-    let alloc = rt.alloc();
-    for number in 0..PRINT_COUNT {
-        let mut lines = Vec::new(alloc);
-        for n in 0u8..16 {
-            let line = failing_line(alloc, sends_of(number))?;
-            add_line(&mut lines, Box::new(alloc, line)?)?;
-        }
-        assert!(rt; prints(alloc, number, &mut lines)?, "{}", number);
-    }
-    Ok(())
+    all_print(&rt, rt.alloc(), &PRINTS)
 }

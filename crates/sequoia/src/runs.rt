@@ -1,22 +1,12 @@
 // Whole runs on machines in memory: how they end, the bytes that they release, and the history that they write.
-ghost use Rattle.std.specs.Prelude.{◌≡◌, length};
-ghost use Rattle.seq_shelf.specs.Outlets.{views, marks};
-ghost use Rattle.seq_shelf.specs.Rows.{AreFresh};
-
 use super::*;
-use crate::tests::{Failing, NONE, failing_line, words_of};
+use crate::tests::{Failing, File, Left, NONE, give, put_files, shelf_of};
 use rand_core::Rng;
 use rand_pcg::Pcg32;
-use seq_shelf::{Line, MemChronicle, MemShelf, Outlet, SoundSink};
-use seq_words::{Blocker, Bytes, Element, Entry, LineNo, Me, NoMemory, Pe, Pid};
+use seq_shelf::{MemShelf, SoundSink};
+use seq_words::{Blocker, Element, Entry, LineNo, Me, NoMemory, Pe, Pid};
+use std::process::Abort;
 use std::test::Fail;
-
-// A program: the name of its image's file, and the image: a header of sixteen bytes, and the bytes from address 0 on.
-#[derive(Clone, Copy)]
-struct Program {
-    name: &'static str,
-    image: &'static [u8],
-}
 
 // Writes the bytes 41 42 43 and exits.
 pub(crate) const HELLO3_IMAGE: &[u8] = &[
@@ -45,11 +35,12 @@ pub(crate) const TRAP_IMAGE: &[u8] = &[
     0xb7, 0x04, 0x00, 0x40, 0x23, 0xa0, 0x54, 0x00,
 ];
 
-const PROGRAMS: [Program; 8] = [
+// The images of programs: a header of sixteen bytes, and the bytes from address 0 on.
+static PROGRAMS: [File<'static>; 8] = [
     // Writes the byte 41 and exits.
-    Program {
+    File {
         name: "hello.sqi",
-        image: &[
+        content: &[
             0x53, 0x51, 0x49, 0x31, 0x40, 0x00, 0x00, 0x00, 0x21, 0x00, 0x00, 0x00, 0x00, 0x00,
             0x00, 0x00, 0x13, 0x05, 0x00, 0x00, 0x93, 0x05, 0x00, 0x02, 0x13, 0x06, 0x10, 0x00,
             0x93, 0x08, 0x40, 0x00, 0x73, 0x00, 0x00, 0x00, 0x13, 0x05, 0x00, 0x00, 0x93, 0x08,
@@ -57,24 +48,24 @@ const PROGRAMS: [Program; 8] = [
         ],
     },
     // Writes the bytes 41 42 and exits.
-    Program {
+    File {
         name: "hello2.sqi",
-        image: &[
+        content: &[
             0x53, 0x51, 0x49, 0x31, 0x40, 0x00, 0x00, 0x00, 0x22, 0x00, 0x00, 0x00, 0x00, 0x00,
             0x00, 0x00, 0x13, 0x05, 0x00, 0x00, 0x93, 0x05, 0x00, 0x02, 0x13, 0x06, 0x20, 0x00,
             0x93, 0x08, 0x40, 0x00, 0x73, 0x00, 0x00, 0x00, 0x13, 0x05, 0x00, 0x00, 0x93, 0x08,
             0x00, 0x00, 0x73, 0x00, 0x00, 0x00, 0x41, 0x42,
         ],
     },
-    Program {
+    File {
         name: "hello3.sqi",
-        image: HELLO3_IMAGE,
+        content: HELLO3_IMAGE,
     },
     // Adds 1 to the number in segment 0 a hundred times, each time under its lock. Process 0 then looks at it until it is 200,
     // and writes it as a byte.
-    Program {
+    File {
         name: "count.sqi",
-        image: &[
+        content: &[
             0x53, 0x51, 0x49, 0x31, 0x00, 0x02, 0x00, 0x00, 0x88, 0x00, 0x00, 0x00, 0x00, 0x00,
             0x00, 0x00, 0x13, 0x04, 0x40, 0x06, 0xb7, 0x04, 0x00, 0x40, 0x13, 0x05, 0x00, 0x00,
             0x93, 0x08, 0x10, 0x00, 0x73, 0x00, 0x00, 0x00, 0x83, 0xa2, 0x04, 0x00, 0x93, 0x82,
@@ -88,14 +79,14 @@ const PROGRAMS: [Program; 8] = [
             0x13, 0x05, 0x00, 0x00, 0x93, 0x08, 0x00, 0x00, 0x73, 0x00, 0x00, 0x00,
         ],
     },
-    Program {
+    File {
         name: "spread.sqi",
-        image: SPREAD_IMAGE,
+        content: SPREAD_IMAGE,
     },
     // Writes each byte that it reads: eleven steps a byte, and seven after the last.
-    Program {
+    File {
         name: "echo.sqi",
-        image: &[
+        content: &[
             0x53, 0x51, 0x49, 0x31, 0x00, 0x02, 0x00, 0x00, 0x38, 0x00, 0x00, 0x00, 0x00, 0x00,
             0x00, 0x00, 0x13, 0x05, 0x00, 0x00, 0x93, 0x08, 0x30, 0x00, 0x73, 0x00, 0x00, 0x00,
             0x63, 0x40, 0x05, 0x02, 0x23, 0x00, 0xa0, 0x10, 0x13, 0x05, 0x00, 0x00, 0x93, 0x05,
@@ -104,13 +95,13 @@ const PROGRAMS: [Program; 8] = [
             0x00, 0x00,
         ],
     },
-    Program {
+    File {
         name: "loop.sqi",
-        image: LOOP_IMAGE,
+        content: LOOP_IMAGE,
     },
-    Program {
+    File {
         name: "trap.sqi",
-        image: TRAP_IMAGE,
+        content: TRAP_IMAGE,
     },
 ];
 
@@ -155,9 +146,7 @@ struct Run {
     history: &'static [(u8, u32)],
 }
 
-const RUN_COUNT: usize = 36;
-
-const RUNS: [Run; RUN_COUNT] = [
+static RUNS: [Run; 36] = [
     Run {
         machine: HELLO,
         schedule: "finish 10000\n",
@@ -514,100 +503,71 @@ const RUNS: [Run; RUN_COUNT] = [
 ];
 
 // A shelf with a machine, a schedule, and the images of all programs.
-pub(crate) fn shelf_of(
+fn shelf_for(
     alloc: Global,
-    machine: &'static str,
+    machine: &str,
     schedule: &[u8],
-    failing: Failing,
-) -> Result<MemShelf, Fail> {
-    let mut shelf = MemShelf::new(alloc, Bytes::copy_of(alloc, failing.loads)?);
-    shelf.put("m.txt", machine.as_bytes())?;
-    shelf.put("s.txt", schedule)?;
-    for program in PROGRAMS {
-        shelf.put(program.name, program.image)?;
-    }
+    loads: &[u8],
+) -> Result<MemShelf, NoMemory> {
+    let files = [
+        File {
+            name: "m.txt",
+            content: machine.as_bytes(),
+        },
+        File {
+            name: "s.txt",
+            content: schedule,
+        },
+    ];
+    let mut shelf = shelf_of(alloc, &files, loads)?;
+    put_files(&mut shelf, &PROGRAMS)?;
     Ok(shelf)
 }
 
-// Runs the schedule on a shelf: how that ended, and the chronicle.
-pub(crate) fn run_on(
-    alloc: Global,
-    shelf: &mut MemShelf,
-    failing: Failing,
-    lines: &mut Vec<Outlet>,
-) -> Result<(Status, MemChronicle), Fail>
-    requires sixteen { length lines.old.items ≡ 16 }
-    requires fresh { AreFresh (views line lines.old.items) (marks lines.old.items) }
-{
+// Runs a schedule on a machine.
+fn run_on(alloc: Global, machine: &str, schedule: &[u8], failing: &Failing) -> Result<Left, Fail> {
+    let mut shelf = shelf_for(alloc, machine, schedule, failing.loads)?;
     let mut sink = SoundSink::new(alloc);
-    let mut chronicle = MemChronicle::new(alloc, Bytes::copy_of(alloc, failing.appends)?);
-    let words = words_of(alloc, &["run", "m.txt", "s.txt"])?;
-    let status = sequoia(alloc, &words, shelf, lines, &mut chronicle, &mut sink);
-    Ok((status, chronicle))
+    give(
+        alloc,
+        &["run", "m.txt", "s.txt"],
+        &mut shelf,
+        failing,
+        &mut sink,
+    )
 }
 
 // Whether the entries are these.
-pub(crate) fn are_entries(found: &[Entry], wanted: &[(u8, u32)]) -> bool {
+fn are_entries(found: &[Entry], wanted: &[(u8, u32)]) -> bool {
     found.len() == wanted.len()
         && found.iter().zip(wanted.iter()).all(|(entry, (pid, count))| entry.pid == Pid(*pid)
             && entry.count == *count)
 }
 
-// Whether there is this line, and it has accepted these bytes and no more.
-pub(crate) fn has_accepted(lines: &Vec<Outlet>, at: usize, wanted: &[u8]) -> bool {
-    if at >= lines.len() {
-        return false;
-    }
-    let accepted = lines[at].line.accepted();
-    let mut all = accepted == wanted.len() as u64;
-    for n in 0..wanted.len() {
-        all = all && lines[at].line.byte_at(n as u64) == Some(wanted[n]);
-    }
-    all
+// Whether a run ended so, with these bytes on line 0 and none on line 1, and this history.
+fn is_left(left: &Left, status: Status, bytes: &[u8], history: &[(u8, u32)]) -> bool {
+    left.status == status
+        && are_entries(left.chronicle.pairs(), history)
+        && left.first.has(bytes)
+        && left.second.has(&[])
 }
 
-fn row_of(number: usize) -> Option<Run> {
-    RUNS.get(number).copied()
+// Runs a row: whether it comes out as wanted.
+fn comes_out(alloc: Global, row: &Run) -> Result<bool, Fail> {
+    let left = run_on(alloc, row.machine, row.schedule.as_bytes(), &row.failing)?;
+    Ok(is_left(&left, row.status, row.bytes, row.history))
 }
 
-// The calls of `send` that are to fail in a row.
-fn sends_of(number: usize) -> &'static [u8] {
-    match row_of(number) {
-        Some(row) => row.failing.sends,
-        None => &[],
+fn all_come_out(rt: &impl Abort, alloc: Global, rows: &[Run]) -> Result<(), Fail> {
+    for (number, row) in rows.iter().enumerate() {
+        assert!(rt; comes_out(alloc, row)?, "{}", number);
     }
-}
-
-// Runs a row: whether it ended so, with these bytes and this history, and nothing on the other lines.
-fn comes_out(alloc: Global, number: usize, lines: &mut Vec<Outlet>) -> Result<bool, Fail>
-    requires sixteen { length lines.old.items ≡ 16 }
-    requires fresh { AreFresh (views line lines.old.items) (marks lines.old.items) }
-{
-    let Some(row) = row_of(number) else {
-        return Ok(false);
-    };
-    let mut shelf = shelf_of(alloc, row.machine, row.schedule.as_bytes(), row.failing)?;
-    let (status, chronicle) = run_on(alloc, &mut shelf, row.failing, lines)?;
-    Ok(
-        status == row.status
-            && are_entries(chronicle.pairs(), row.history)
-            && has_accepted(lines, 0, row.bytes)
-            && has_accepted(lines, 1, &[]),
-    )
+    Ok(())
 }
 
 #[test]
 fn runs(rt: HostRuntime) -> Result<(), Fail> {
-    let alloc = rt.alloc();
-    for number in 0..RUN_COUNT {
-        let mut lines = Vec::new(alloc);
-        for n in 0u8..16 {
-            let line = failing_line(alloc, sends_of(number))?;
-            add_line(&mut lines, Box::new(alloc, line)?)?;
-        }
-        assert!(rt; comes_out(alloc, number, &mut lines)?, "{}", number);
-    }
-    Ok(())
+    all_come_out(&rt, rt.alloc(), &RUNS)
 }
 
 // The same on four processors, and on eight.
@@ -642,29 +602,22 @@ fn counting_machine(number: u64) -> (u8, &'static str) {
     }
 }
 
-// Runs a schedule: whether both processes have added a hundred times, so that line 0 gets 200.
-fn counts(
-    alloc: Global,
-    machine: &'static str,
-    schedule: &[u8],
-    lines: &mut Vec<Outlet>,
-) -> Result<bool, Fail>
-    requires sixteen { length lines.old.items ≡ 16 }
-    requires fresh { AreFresh (views line lines.old.items) (marks lines.old.items) }
-{
-    let mut shelf = shelf_of(alloc, machine, schedule, NONE)?;
-    let (status, chronicle) = run_on(alloc, &mut shelf, NONE, lines)?;
-    Ok(status == Status::Done && has_accepted(lines, 0, &[200]) && chronicle.pairs().len() > 200)
+// Whether both processes have added a hundred times, so that line 0 gets 200.
+fn has_counted(left: &Left) -> bool {
+    left.status == Status::Done && left.first.has(&[200]) && left.chronicle.pairs().len() > 200
+}
+
+// Runs a schedule: whether both processes count so.
+fn counts(alloc: Global, machine: &str, schedule: &[u8]) -> Result<bool, Fail> {
+    let left = run_on(alloc, machine, schedule, &NONE)?;
+    Ok(has_counted(&left))
 }
 
 // The same in an order that is drawn from a number.
-fn counts_in_order(alloc: Global, number: u64, lines: &mut Vec<Outlet>) -> Result<bool, Fail>
-    requires sixteen { length lines.old.items ≡ 16 }
-    requires fresh { AreFresh (views line lines.old.items) (marks lines.old.items) }
-{
+fn counts_in_order(alloc: Global, number: u64) -> Result<bool, Fail> {
     let (processors, machine) = counting_machine(number);
     let schedule = drawn_schedule(alloc, number, processors)?;
-    counts(alloc, machine, schedule.as_slice(), lines)
+    counts(alloc, machine, schedule.as_slice())
 }
 
 // Sixty orders, twenty on each of the three machines.
@@ -672,19 +625,14 @@ fn counts_in_order(alloc: Global, number: u64, lines: &mut Vec<Outlet>) -> Resul
 fn counts_in_any_order(rt: HostRuntime) -> Result<(), Fail> {
     let alloc = rt.alloc();
     for number in 0u64..60 {
-        let mut lines = Vec::new(alloc);
-        for n in 0u8..16 {
-            let line = failing_line(alloc, &[])?;
-            add_line(&mut lines, Box::new(alloc, line)?)?;
-        }
-        assert!(rt; counts_in_order(alloc, number, &mut lines)?, "{}", number);
+        assert!(rt; counts_in_order(alloc, number)?, "{}", number);
     }
     Ok(())
 }
 
 // What follows some turns of processor 0, which runs the program: a processor fails, and perhaps another one, or the same, three
 // turns later; they are repaired or not; and then the rest of the run.
-const FAILURES: [&str; 7] = [
+static FAILURES: [&str; 7] = [
     "fail p0\nfinish 10000\n",
     "fail p1\nfinish 10000\n",
     "fail p0\nrepair p0\nfinish 10000\n",
@@ -708,25 +656,17 @@ fn failing_schedule(
     Ok(text)
 }
 
-// Runs these failures after so many turns: whether the byte is sent, and the steps are committed once.
-fn recovers(
-    alloc: Global,
-    turns: u64,
-    failures: &'static str,
-    lines: &mut Vec<Outlet>,
-) -> Result<bool, Fail>
-    requires sixteen { length lines.old.items ≡ 16 }
-    requires fresh { AreFresh (views line lines.old.items) (marks lines.old.items) }
-{
-    let schedule = failing_schedule(alloc, turns, failures)?;
-    let mut shelf = shelf_of(alloc, PAIR, schedule.as_slice(), NONE)?;
-    let (status, chronicle) = run_on(alloc, &mut shelf, NONE, lines)?;
-    Ok(
-        status == Status::Done
-            && are_entries(chronicle.pairs(), &[(0, 8)])
-            && has_accepted(lines, 0, &[0x41])
-            && has_accepted(lines, 1, &[]),
-    )
+// Runs a schedule on two processors: whether the byte is sent, and the steps are committed once.
+pub(crate) fn comes_through(alloc: Global, schedule: &[u8]) -> Result<bool, Fail> {
+    let left = run_on(alloc, PAIR, schedule, &NONE)?;
+    Ok(is_left(&left, Status::Done, &[0x41], &[(0, 8)]))
+}
+
+// Runs one of the failures after so many turns.
+fn recovers(alloc: Global, number: u64) -> Result<bool, Fail> {
+    let failures = FAILURES[(number % 7) as usize];
+    let schedule = failing_schedule(alloc, number / 7, failures)?;
+    comes_through(alloc, schedule.as_slice())
 }
 
 // Alone a processor takes 36 turns: each of the failures after each of them, and before the first.
@@ -734,17 +674,7 @@ fn recovers(
 fn recovers_at_every_turn(rt: HostRuntime) -> Result<(), Fail> {
     let alloc = rt.alloc();
     for number in 0u64..259 {
-        let mut lines = Vec::new(alloc);
-        for n in 0u8..16 {
-            let line = failing_line(alloc, &[])?;
-            add_line(&mut lines, Box::new(alloc, line)?)?;
-        }
-        let failures = FAILURES[(number % 7) as usize];
-        assert!(rt;
-            recovers(alloc, number / 7, failures, &mut lines)?,
-            "{}",
-            number
-        );
+        assert!(rt; recovers(alloc, number)?, "{}", number);
     }
     Ok(())
 }
@@ -764,32 +694,16 @@ fn failing_rounds(alloc: Global, rounds: u64) -> Result<Vec<u8>, AllocError> {
 }
 
 // Runs that on two processors, a round being four turns: whether line 0 gets 200.
-fn counts_through_failures(
-    alloc: Global,
-    rounds: u64,
-    lines: &mut Vec<Outlet>,
-) -> Result<bool, Fail>
-    requires sixteen { length lines.old.items ≡ 16 }
-    requires fresh { AreFresh (views line lines.old.items) (marks lines.old.items) }
-{
+fn counts_through_failures(alloc: Global, rounds: u64) -> Result<bool, Fail> {
     let schedule = failing_rounds(alloc, rounds)?;
-    counts(alloc, TWO, schedule.as_slice(), lines)
+    counts(alloc, TWO, schedule.as_slice())
 }
 
 #[test]
 fn counts_while_processors_fail(rt: HostRuntime) -> Result<(), Fail> {
     let alloc = rt.alloc();
     for rounds in 0u64..25 {
-        let mut lines = Vec::new(alloc);
-        for n in 0u8..16 {
-            let line = failing_line(alloc, &[])?;
-            add_line(&mut lines, Box::new(alloc, line)?)?;
-        }
-        assert!(rt;
-            counts_through_failures(alloc, rounds, &mut lines)?,
-            "{}",
-            rounds
-        );
+        assert!(rt; counts_through_failures(alloc, rounds)?, "{}", rounds);
     }
     Ok(())
 }

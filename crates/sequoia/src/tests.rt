@@ -1,13 +1,14 @@
 // Whole commands, with the outside in memory.
-ghost use Rattle.std.specs.Prelude.{◌≡◌, length, IfOk};
+ghost use Rattle.std.specs.Prelude.{◌≡◌, ◌<◌, length, IfOk};
 ghost use Rattle.seq_shelf.specs.Outlets.{views, marks};
 ghost use Rattle.seq_shelf.specs.Rows.{AreFresh};
 
 use super::*;
-use seq_shelf::{Line, MemChronicle, MemLine, MemShelf, Outlet, SoundSink, accepted};
+use seq_shelf::{Line, MemChronicle, MemLine, MemShelf, Outlet, Sink, SoundSink, accepted};
 use seq_words::{Bytes, Entry, LineNo, NoMemory, Pid};
 use std::env::FillError;
 use std::fs;
+use std::process::Abort;
 use std::test::Fail;
 
 const MACHINE: &str =
@@ -56,7 +57,7 @@ const ALL_STEPS: &[Entry] = &[Entry {
     count: 8,
 }];
 
-const ROWS: [Row; 16] = [
+static ROWS: [Row; 16] = [
     Row {
         machine: LARGER,
         schedule: "finish 1000\n",
@@ -230,11 +231,112 @@ pub(crate) fn words_of(alloc: Global, words: &[&str]) -> Result<Vec<String>, All
 }
 
 // A line that fails at those calls of `send`.
-pub(crate) fn failing_line(alloc: Global, sends: &'static [u8]) -> Result<MemLine, NoMemory>
+fn failing_line(alloc: Global, sends: &[u8]) -> Result<MemLine, NoMemory>
     ensures fresh { IfOk result (λ line. (⟦<MemLine as Line>⟧.line line).count ≡ 0) }
 {
     let failing = Bytes::copy_of(alloc, sends)?;
     Ok(MemLine::new(alloc, failing))
+}
+
+// What a line has accepted: how many bytes, and which.
+#[derive(Drop)]
+pub(crate) struct Heard {
+    pub(crate) accepted: u64,
+    bytes: Bytes,
+}
+
+impl Heard {
+    // Whether it has accepted these bytes and no more.
+    pub(crate) fn has(&self, wanted: &[u8]) -> bool {
+        self.accepted == wanted.len() as u64 && self.bytes.as_slice() == wanted
+    }
+}
+
+fn byte_at(lines: &[Outlet], at: usize, index: u64) -> Option<u8> {
+    match lines.get(at) {
+        Some(outlet) => outlet.line.byte_at(index),
+        None => None,
+    }
+}
+
+// What one of the lines has accepted. It is asked for one byte more than it has, too.
+fn hear(alloc: Global, lines: &[Outlet], at: usize) -> Result<Option<Heard>, NoMemory> {
+    if at >= lines.len() {
+        return Ok(None);
+    }
+    let count = accepted(lines, at);
+    let mut bytes = Bytes::new(alloc);
+    for index in 0..count.saturating_add(1) {
+        if let Some(byte) = byte_at(lines, at, index) {
+            bytes.push(byte)?;
+        }
+    }
+    Ok(Some(Heard {
+        accepted: count,
+        bytes,
+    }))
+}
+
+// What a command leaves: how it ended, the history, the number of lines, and what the first two of them have accepted.
+#[derive(Drop)]
+pub(crate) struct Left {
+    pub(crate) status: Status,
+    pub(crate) chronicle: MemChronicle,
+    lines: usize,
+    pub(crate) first: Heard,
+    pub(crate) second: Heard,
+}
+
+fn leave(
+    alloc: Global,
+    status: Status,
+    chronicle: MemChronicle,
+    lines: &[Outlet],
+) -> Result<Left, Fail> {
+    let first = hear(alloc, lines, 0)?.ok_or("there is no line 0")?;
+    let second = hear(alloc, lines, 1)?.ok_or("there is no line 1")?;
+    Ok(Left {
+        status,
+        chronicle,
+        lines: lines.len(),
+        first,
+        second,
+    })
+}
+
+// Gives a command on these lines: how it ends, and the history.
+fn give_on<K: Sink>(
+    alloc: Global,
+    words: &[&str],
+    shelf: &mut MemShelf,
+    lines: &mut Vec<Outlet>,
+    appends: &[u8],
+    sink: &mut K,
+) -> Result<(Status, MemChronicle), Fail>
+    requires sixteen { length lines.old.items ≡ 16 }
+    requires fresh { AreFresh (views line lines.old.items) (marks lines.old.items) }
+{
+    let words = words_of(alloc, words)?;
+    let mut chronicle = MemChronicle::new(alloc, Bytes::copy_of(alloc, appends)?);
+    let status = sequoia(alloc, &words, shelf, lines, &mut chronicle, sink);
+    Ok((status, chronicle))
+}
+
+// Gives a command on sixteen lines in memory.
+pub(crate) fn give<K: Sink>(
+    alloc: Global,
+    words: &[&str],
+    shelf: &mut MemShelf,
+    failing: &Failing,
+    sink: &mut K,
+) -> Result<Left, Fail> {
+    let mut lines = Vec::new(alloc);
+    for n in 0u8..16 {
+        let line = failing_line(alloc, failing.sends)?;
+        add_line(&mut lines, Box::new(alloc, line)?)?;
+    }
+    let (status, chronicle) = give_on(alloc, words, shelf, &mut lines, failing.appends, sink)?;
+    leave(alloc, status, chronicle, &lines)
 }
 
 // Whether these entries were appended.
@@ -242,62 +344,82 @@ fn are(found: &[Entry], wanted: &[Entry]) -> bool {
     found == wanted
 }
 
-// The contents of the files `a1.txt`, `hello.sqi` and `s.txt`.
+// A file: its name and its content.
 #[derive(Clone, Copy)]
-struct Files {
-    machine: &'static str,
-    image: &'static [u8],
-    schedule: &'static str,
+pub(crate) struct File<'a> {
+    pub(crate) name: &'a str,
+    pub(crate) content: &'a [u8],
 }
 
-// Runs a command over files in memory: how it ended, and the entries that were appended.
-fn run(
+pub(crate) fn put_files(shelf: &mut MemShelf, files: &[File<'_>]) -> Result<(), NoMemory> {
+    for file in files {
+        shelf.put(file.name, file.content)?;
+    }
+    Ok(())
+}
+
+// A shelf of these files that fails at those calls.
+pub(crate) fn shelf_of(
     alloc: Global,
-    words: &'static [&'static str],
-    files: Files,
-    failing: Failing,
-    lines: &mut Vec<Outlet>,
-) -> Result<(Status, Vec<Entry>), Fail>
-    requires sixteen { length lines.old.items ≡ 16 }
-    requires fresh { AreFresh (views line lines.old.items) (marks lines.old.items) }
-{
-    let mut shelf = MemShelf::new(alloc, Bytes::copy_of(alloc, failing.loads)?);
-    shelf.put("a1.txt", files.machine.as_bytes())?;
-    shelf.put("hello.sqi", files.image)?;
-    shelf.put("s.txt", files.schedule.as_bytes())?;
+    files: &[File<'_>],
+    loads: &[u8],
+) -> Result<MemShelf, NoMemory> {
+    let mut shelf = MemShelf::new(alloc, Bytes::copy_of(alloc, loads)?);
+    put_files(&mut shelf, files)?;
+    Ok(shelf)
+}
+
+// A description, an image and a schedule, as the files that the commands name.
+fn files_of<'a>(machine: &'a str, image: &'a [u8], schedule: &'a str) -> [File<'a>; 3] {
+    [
+        File {
+            name: "a1.txt",
+            content: machine.as_bytes(),
+        },
+        File {
+            name: "hello.sqi",
+            content: image,
+        },
+        File {
+            name: "s.txt",
+            content: schedule.as_bytes(),
+        },
+    ]
+}
+
+// Gives a command over files in memory.
+fn run(alloc: Global, words: &[&str], files: &[File<'_>], failing: &Failing) -> Result<Left, Fail> {
+    let mut shelf = shelf_of(alloc, files, failing.loads)?;
     let mut sink = SoundSink::new(alloc);
-    let mut chronicle = MemChronicle::new(alloc, Bytes::copy_of(alloc, failing.appends)?);
-    let words = words_of(alloc, words)?;
-    let status = sequoia(alloc, &words, &mut shelf, lines, &mut chronicle, &mut sink);
-    let mut entries = Vec::new(alloc);
-    entries.extend_from_slice(chronicle.pairs())?;
-    Ok((status, entries))
+    give(alloc, words, &mut shelf, failing, &mut sink)
 }
 
 const RUN: &[&str] = &["run", "a1.txt", "s.txt"];
 
-#[test]
-fn rows(rt: HostRuntime) -> Result<(), Fail> {
-    let alloc = rt.alloc();
-    for row in ROWS {
-        let mut lines = Vec::new(alloc);
-        for n in 0u8..16 {
-            let line = failing_line(alloc, row.failing.sends)?;
-            add_line(&mut lines, Box::new(alloc, line)?)?;
-        }
-        let files = Files {
-            machine: row.machine,
-            image: &HELLO,
-            schedule: row.schedule,
-        };
-        let (status, entries) = run(alloc, RUN, files, row.failing, &mut lines)?;
-        assert_eq!(rt; status, row.status, "{}", row.schedule);
-        assert!(rt; are(&entries, row.entries));
-        assert_eq!(rt; lines.len(), 16);
-        assert_eq!(rt; lines[0].line.accepted(), row.bytes.len() as u64);
-        assert_eq!(rt; lines[0].line.byte_at(0), row.bytes.first().copied());
+fn run_row(alloc: Global, row: &Row) -> Result<Left, Fail> {
+    let files = files_of(row.machine, &HELLO, row.schedule);
+    run(alloc, RUN, &files, &row.failing)
+}
+
+// Whether it ended so, with these bytes on line 0 and these entries.
+fn ends_so(left: &Left, row: &Row) -> bool {
+    left.status == row.status
+        && are(left.chronicle.pairs(), row.entries)
+        && left.lines == 16
+        && left.first.has(row.bytes)
+}
+
+fn all_end_so(rt: &impl Abort, alloc: Global, rows: &[Row]) -> Result<(), Fail> {
+    for row in rows {
+        let left = run_row(alloc, row)?;
+        assert!(rt; ends_so(&left, row), "{}", row.schedule);
     }
     Ok(())
+}
+
+#[test]
+fn rows(rt: HostRuntime) -> Result<(), Fail> {
+    all_end_so(&rt, rt.alloc(), &ROWS)
 }
 
 // An image whose private size is 65,568.
@@ -315,7 +437,7 @@ struct Early {
     status: Status,
 }
 
-const OPENINGS: [Early; 18] = [
+static OPENINGS: [Early; 18] = [
     Early {
         words: &[],
         machine: MACHINE,
@@ -494,27 +616,30 @@ const OPENINGS: [Early; 18] = [
     },
 ];
 
-#[test]
-fn openings(rt: HostRuntime) -> Result<(), Fail> {
-    let alloc = rt.alloc();
-    for row in OPENINGS {
-        let mut lines = Vec::new(alloc);
-        for n in 0u8..16 {
-            let line = failing_line(alloc, row.failing.sends)?;
-            add_line(&mut lines, Box::new(alloc, line)?)?;
-        }
-        let files = Files {
-            machine: row.machine,
-            image: row.image,
-            schedule: "finish 1000\n",
-        };
-        let (status, entries) = run(alloc, row.words, files, row.failing, &mut lines)?;
-        assert_eq!(rt; status, row.status);
-        assert!(rt; entries.is_empty());
-        assert_eq!(rt; lines.len(), 16);
-        assert_eq!(rt; accepted(&lines, 0), 0);
+fn run_early(alloc: Global, row: &Early) -> Result<Left, Fail> {
+    let files = files_of(row.machine, row.image, "finish 1000\n");
+    run(alloc, row.words, &files, &row.failing)
+}
+
+// Whether it is answered so, and nothing is sent or run.
+fn is_answered(left: &Left, row: &Early) -> bool {
+    left.status == row.status
+        && left.chronicle.pairs().is_empty()
+        && left.lines == 16
+        && left.first.has(&[])
+}
+
+fn are_answered(rt: &impl Abort, alloc: Global, rows: &[Early]) -> Result<(), Fail> {
+    for (number, row) in rows.iter().enumerate() {
+        let left = run_early(alloc, row)?;
+        assert!(rt; is_answered(&left, row), "{}", number);
     }
     Ok(())
+}
+
+#[test]
+fn openings(rt: HostRuntime) -> Result<(), Fail> {
+    are_answered(&rt, rt.alloc(), &OPENINGS)
 }
 
 // A schedule of so many turns of the processor, and rounds to the end.
@@ -527,67 +652,136 @@ fn turns(alloc: Global, count: usize) -> Result<Vec<u8>, AllocError> {
     Ok(text)
 }
 
-// Commands over files: the words, the turns of the processor, the exit status, and the bytes of line 0 in its file, where
-// there is one. The long schedule has 2,400,012 bytes.
-const COMMANDS: [(&[&str], usize, u8, Option<&str>); 5] = [
-    (RUN, 8, 0, Some("A")),
-    (RUN, 300_000, 0, Some("A")),
-    (&["run", "a1.txt"], 8, 2, None),
-    (&["run", "none.txt", "s.txt"], 8, 3, None),
-    (&["run", "s.txt", "s.txt"], 8, 3, None),
+// A command over files: the words, the turns of the processor, the exit status, and the bytes of line 0 in its file, where
+// there is one.
+#[derive(Clone, Copy)]
+struct OverFiles {
+    words: &'static [&'static str],
+    turns: usize,
+    code: u8,
+    bytes: Option<&'static str>,
+}
+
+// The long schedule has 2,400,012 bytes.
+static COMMANDS: [OverFiles; 5] = [
+    OverFiles {
+        words: RUN,
+        turns: 8,
+        code: 0,
+        bytes: Some("A"),
+    },
+    OverFiles {
+        words: RUN,
+        turns: 300_000,
+        code: 0,
+        bytes: Some("A"),
+    },
+    OverFiles {
+        words: &["run", "a1.txt"],
+        turns: 8,
+        code: 2,
+        bytes: None,
+    },
+    OverFiles {
+        words: &["run", "none.txt", "s.txt"],
+        turns: 8,
+        code: 3,
+        bytes: None,
+    },
+    OverFiles {
+        words: &["run", "s.txt", "s.txt"],
+        turns: 8,
+        code: 3,
+        bytes: None,
+    },
 ];
+
+// Gives a command over the files of the system, on these lines.
+fn give_over_files(
+    rt: &HostRuntime,
+    words: &[&str],
+    lines: &mut Vec<Outlet>,
+) -> Result<Status, Fail>
+    requires sixteen { length lines.old.items ≡ 16 }
+    requires fresh { AreFresh (views line lines.old.items) (marks lines.old.items) }
+{
+    let alloc = rt.alloc();
+    let words = words_of(alloc, words)?;
+    let mut shelf = FileShelf::new(rt, alloc);
+    let mut sink = OutSink::new(Some(rt));
+    let mut chronicle = SoundChronicle::new(alloc);
+    Ok(sequoia(alloc, &words, &mut shelf, lines, &mut chronicle, &mut sink))
+}
+
+// The same on lines whose bytes go into files.
+fn give_on_files(rt: &HostRuntime, words: &[&str]) -> Result<Status, Fail> {
+    let alloc = rt.alloc();
+    let mut lines = Vec::new(alloc);
+    for n in 0..LINES {
+        let line = FileLine::new(rt.clone()?, line_file(alloc, n)?);
+        add_line(&mut lines, Box::new(alloc, line)?)?;
+    }
+    give_over_files(rt, words, &mut lines)
+}
+
+// The exit status of a command over these files.
+fn code_over_files(rt: &HostRuntime, command: &OverFiles) -> Result<ExitCode, Fail> {
+    let schedule = turns(rt.alloc(), command.turns)?;
+    fs::write(rt, "s.txt", schedule.as_slice())?;
+    let status = give_on_files(rt, command.words)?;
+    Ok(exit_code(&status))
+}
+
+// Whether a file has this text, or, where none is wanted, isn't there. It is removed.
+fn held(rt: &HostRuntime, name: &str, wanted: Option<&str>) -> Result<bool, Fail> {
+    let found = fs::read_to_string(rt, name).ok();
+    if found.is_some() {
+        fs::remove_file(rt, name)?;
+    }
+    Ok(found.as_ref().map(|text| text.as_str()) == wanted)
+}
+
+// Whether a command over files ends so, with these bytes in the file of line 0.
+fn is_given(rt: &HostRuntime, command: &OverFiles) -> Result<bool, Fail> {
+    let code = code_over_files(rt, command)?;
+    let has_bytes = held(rt, "line0.out", command.bytes)?;
+    Ok(code == ExitCode::from(command.code) && has_bytes)
+}
 
 #[test]
 fn over_files(rt: HostRuntime) -> Result<(), Fail> {
-    let alloc = rt.alloc();
     fs::write(&rt, "a1.txt", MACHINE)?;
     fs::write(&rt, "hello.sqi", HELLO)?;
-    for (words, count, code, bytes) in COMMANDS {
-        let schedule = turns(alloc, count)?;
-        fs::write(&rt, "s.txt", schedule.as_slice())?;
-        let mut lines = Vec::new(alloc);
-        for n in 0..LINES {
-            let line = FileLine::new(rt.clone()?, line_file(alloc, n)?);
-            add_line(&mut lines, Box::new(alloc, line)?)?;
-        }
-        let mut shelf = FileShelf::new(&rt, alloc);
-        let mut sink = OutSink::new(Some(&rt));
-        let mut chronicle = SoundChronicle::new(alloc);
-        let words = words_of(alloc, words)?;
-        let status = sequoia(
-            alloc,
-            &words,
-            &mut shelf,
-            &mut lines,
-            &mut chronicle,
-            &mut sink,
-        );
-        assert_eq!(rt; exit_code(&status), ExitCode::from(code));
-        let found = fs::read_to_string(&rt, "line0.out").ok();
-        assert_eq!(rt; found.as_ref().map(|text| text.as_str()), bytes);
-        if found.is_some() {
-            fs::remove_file(&rt, "line0.out")?;
-        }
+    for (number, command) in COMMANDS.iter().enumerate() {
+        assert!(rt; is_given(&rt, command)?, "{}", number);
     }
     Ok(())
 }
 
+// Sends a byte on the line of a file: whether it is accepted.
+fn is_sent(rt: &HostRuntime, n: u8) -> Result<bool, Fail>
+    requires { n < 16 }
+{
+    let mut line = FileLine::new(rt.clone()?, line_file(rt.alloc(), n)?);
+    Ok(line.send(0, 0x41 + n) == Ok(()))
+}
+
+// The files of some lines.
+static FILES: [(&str, &str); 4] = [
+    ("line0.out", "A"),
+    ("line3.out", "D"),
+    ("line10.out", "K"),
+    ("line15.out", "P"),
+];
+
 // Each of the sixteen lines has a file of its own.
 #[test]
 fn files_of_lines(rt: HostRuntime) -> Result<(), Fail> {
-    let alloc = rt.alloc();
     for n in 0..LINES {
-        let mut line = FileLine::new(rt.clone()?, line_file(alloc, n)?);
-        assert_eq!(rt; line.send(0, 0x41 + n), Ok(()));
+        assert!(rt; is_sent(&rt, n)?);
     }
-    for (name, text) in [
-        ("line0.out", "A"),
-        ("line3.out", "D"),
-        ("line10.out", "K"),
-        ("line15.out", "P"),
-    ] {
-        assert_eq!(rt; fs::read_to_string(&rt, name)?.as_str(), text);
-        fs::remove_file(&rt, name)?;
+    for (name, text) in &FILES {
+        assert!(rt; held(&rt, name, Some(*text))?);
     }
     Ok(())
 }
@@ -621,27 +815,49 @@ impl Env for Told {
     }
 }
 
-// Command lines with the first of the words that are read, and how many those are: none where the words can't be read.
-const COMMAND_LINES: [(&[&[u8]], Option<(&str, usize)>); 4] = [
-    (&[b"sequoia", b"run", b"a1.txt", b"s.txt"], Some(("run", 3))),
-    (&[b"sequoia"], Some(("", 0))),
-    (&[], Some(("", 0))),
-    (&[b"sequoia", b"run", &[0x61, 0xff], b"s.txt"], None),
+// A command line with the first of the words that are read, and how many those are: none where the words can't be read.
+#[derive(Clone, Copy)]
+struct CommandLine {
+    words: &'static [&'static [u8]],
+    wanted: Option<(&'static str, usize)>,
+}
+
+static COMMAND_LINES: [CommandLine; 4] = [
+    CommandLine {
+        words: &[b"sequoia", b"run", b"a1.txt", b"s.txt"],
+        wanted: Some(("run", 3)),
+    },
+    CommandLine {
+        words: &[b"sequoia"],
+        wanted: Some(("", 0)),
+    },
+    CommandLine {
+        words: &[],
+        wanted: Some(("", 0)),
+    },
+    CommandLine {
+        words: &[b"sequoia", b"run", &[0x61, 0xff], b"s.txt"],
+        wanted: None,
+    },
 ];
+
+fn begin_so(found: &[String], wanted: Option<(&str, usize)>) -> bool {
+    let first = found.first().map_or("", |word| word.as_str());
+    Some((first, found.len())) == wanted
+}
+
+// Reads the words of a command line: whether they begin so, or can't be read, which is usage.
+fn is_read(alloc: Global, line: &CommandLine) -> bool {
+    match read_words(&(Told { words: line.words }, alloc), alloc) {
+        Ok(found) => begin_so(&found, line.wanted),
+        Err(status) => status == Status::Usage && line.wanted.is_none(),
+    }
+}
 
 #[test]
 fn words_begin_after_the_name(rt: HostRuntime) {
     let alloc = rt.alloc();
-    for (words, wanted) in COMMAND_LINES {
-        match read_words(&(Told { words }, alloc), alloc) {
-            Ok(found) => {
-                let first = found.first().map_or("", |word| word.as_str());
-                assert_eq!(rt; Some((first, found.len())), wanted);
-            }
-            Err(status) => {
-                assert_eq!(rt; status, Status::Usage);
-                assert!(rt; wanted.is_none());
-            }
-        }
+    for (number, line) in COMMAND_LINES.iter().enumerate() {
+        assert!(rt; is_read(alloc, line), "{}", number);
     }
 }

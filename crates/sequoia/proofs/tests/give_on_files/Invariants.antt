@@ -1,11 +1,11 @@
 use Rattle.std.proofs.Common.{◌≡◌, length}
 use Rattle.seq_shelf.specs.Outlets.{views, marks}
 use Rattle.seq_shelf.specs.Rows.{AreFresh}
-use Rattle.sequoia.proofs.runs.runs.OwnLists.{own-1}
-use Rattle.sequoia.proofs.runs.runs.Given as goal
+use Rattle.sequoia.proofs.tests.give_on_files.OwnLists.{own-1}
+use Rattle.sequoia.proofs.tests.give_on_files.Given as goal
 
 abbrev pub invariant-loop-n : goal.invariant-loop-n
-invariant-loop-n g l = record {
+invariant-loop-n l = record {
   number : length l.lines.items ≡ l.n;
   fresh : AreFresh (views (λ z. (own-1.entry z.0).1.line z.1) l.lines.items) (marks l.lines.items);
 }

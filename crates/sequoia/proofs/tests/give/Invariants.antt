@@ -1,8 +1,8 @@
 use Rattle.std.proofs.Common.{◌≡◌, length}
 use Rattle.seq_shelf.specs.Outlets.{views, marks}
 use Rattle.seq_shelf.specs.Rows.{AreFresh}
-use Rattle.sequoia.proofs.elements.a_register_is_struck_at_every_turn.OwnLists.{own-1}
-use Rattle.sequoia.proofs.elements.a_register_is_struck_at_every_turn.Given as goal
+use Rattle.sequoia.proofs.tests.give.OwnLists.{own-1}
+use Rattle.sequoia.proofs.tests.give.Given as goal
 
 abbrev pub invariant-loop-n : goal.invariant-loop-n
 invariant-loop-n g l = record {
