@@ -1,6 +1,7 @@
 // Elements that fail, or are struck, at every moment of a small run on two processors, two memories and two I/O elements.
 use super::*;
 use crate::runs::comes_through;
+use crate::tests::turns_and;
 use std::test::Fail;
 
 // Rounds, event by event, up to so many events, and what follows them.
@@ -47,22 +48,17 @@ fn memories_and_io_elements_fail_at_every_event(rt: HostRuntime) -> Result<(), F
 }
 
 // So many turns of processor 0, then a strike of one of the registers of a half, 32 being the pc, and the rest of the run.
-fn strike_behind(alloc: Global, turns: u64, strike: u64) -> Result<String, AllocError> {
-    let mut text = String::new(alloc);
-    for _ in 0..turns {
-        text.push_str("turn p0\n")?;
-    }
+fn strike_behind(alloc: Global, turns: u64, strike: u64) -> Result<Vec<u8>, AllocError> {
     let half = if strike < 32 { "a" } else { "b" };
     let register = strike % 32 + 1;
     let line = format!(in alloc; "upset p0 {half} {register} 0x1\nfinish 10000\n")?;
-    text.push_str(&line)?;
-    Ok(text)
+    turns_and(alloc, turns, &line)
 }
 
 // Runs one of the 64 strikes behind so many turns.
 fn is_recovered(alloc: Global, number: u64) -> Result<bool, Fail> {
     let schedule = strike_behind(alloc, number / 64, number % 64)?;
-    comes_through(alloc, schedule.as_bytes())
+    comes_through(alloc, schedule.as_slice())
 }
 
 // Alone a processor takes 36 turns: each of the strikes after each of them, and before the first.

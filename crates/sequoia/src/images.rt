@@ -31,7 +31,6 @@ const HELLO_LISTING: &str =
 
 // The words, the text of `b.s`, the numbers of the loads and stores and of the writes that fail; the status, what `a.sqi` holds then,
 // and what is printed.
-#[derive(Clone, Copy)]
 struct Row {
     words: &'static [&'static str],
     source: &'static str,
@@ -267,13 +266,13 @@ static IMAGES: [File<'static>; 2] = [
     },
 ];
 
-// The files that a command of a row finds.
-fn shelf_for(alloc: Global, row: &Row) -> Result<MemShelf, NoMemory> {
+// The files that a command finds.
+fn shelf_for(alloc: Global, source: &str, failing: &[u8]) -> Result<MemShelf, NoMemory> {
     let source = File {
         name: "b.s",
-        content: row.source.as_bytes(),
+        content: source.as_bytes(),
     };
-    let mut shelf = shelf_of(alloc, &[source], row.failing)?;
+    let mut shelf = shelf_of(alloc, &[source], failing)?;
     put_files(&mut shelf, &IMAGES)?;
     Ok(shelf)
 }
@@ -294,7 +293,7 @@ fn is_left(left: &Left, shelf: &MemShelf, text: &[u8], row: &Row) -> bool {
 
 // Gives the command of a row: whether it is answered as wanted.
 fn is_answered(alloc: Global, row: &Row) -> Result<bool, Fail> {
-    let mut shelf = shelf_for(alloc, row)?;
+    let mut shelf = shelf_for(alloc, row.source, row.failing)?;
     let mut sink = MemSink::new(alloc, Bytes::copy_of(alloc, row.writes)?);
     let left = give(alloc, row.words, &mut shelf, &NONE, &mut sink)?;
     Ok(is_left(&left, &shelf, sink.bytes(), row))

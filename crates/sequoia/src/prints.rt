@@ -1,7 +1,7 @@
 // What runs print, byte by byte.
 use super::*;
-use crate::runs::{HELLO, HELLO3_IMAGE, LOOP_IMAGE, PAIR, SPREAD_IMAGE, TRAP_IMAGE};
-use crate::tests::{Failing, File, HELLO as HELLO_IMAGE, Left, NONE, give, shelf_of};
+use crate::runs::{HELLO, HELLO3_IMAGE, LOOP_IMAGE, PAIR, SPREAD_IMAGE, TRAP_IMAGE, shelf_for};
+use crate::tests::{Failing, File, HELLO as HELLO_IMAGE, Left, NONE, give};
 use seq_shelf::{MemShelf, MemSink};
 use seq_words::{Blocker, Bytes, Element, LineNo, Me, NoMemory, Pe, Pid};
 use std::process::Abort;
@@ -24,7 +24,6 @@ const LONG: &[u8] = &[
 
 // Words, a machine, a schedule, the image of its program where there is one, what fails, and the writes that fail; how that ends, how
 // many bytes line 0 has accepted, and the text.
-#[derive(Clone, Copy)]
 struct Print {
     words: &'static [&'static str],
     machine: &'static str,
@@ -261,22 +260,22 @@ static PRINTS: [Print; 17] = [
 ];
 
 // The files of a row.
-fn shelf_for(alloc: Global, row: &Print) -> Result<MemShelf, NoMemory> {
-    let files = [
-        File {
-            name: "m.txt",
-            content: row.machine.as_bytes(),
-        },
-        File {
-            name: "s.txt",
-            content: row.schedule.as_bytes(),
-        },
-    ];
-    let mut shelf = shelf_of(alloc, &files, row.failing.loads)?;
-    if let Some(image) = row.image {
-        shelf.put("hello.sqi", image)?;
+fn shelf_of_row(alloc: Global, row: &Print) -> Result<MemShelf, NoMemory> {
+    let schedule = row.schedule.as_bytes();
+    let loads = row.failing.loads;
+    match row.image {
+        Some(content) => {
+            let name = "hello.sqi";
+            shelf_for(
+                alloc,
+                row.machine,
+                schedule,
+                &[File { name, content }],
+                loads,
+            )
+        }
+        None => shelf_for(alloc, row.machine, schedule, &[], loads),
     }
-    Ok(shelf)
 }
 
 // Whether it ended so, with so many bytes on line 0, and printed the text.
@@ -286,7 +285,7 @@ fn is_left(left: &Left, text: &[u8], row: &Print) -> bool {
 
 // Gives the command of a row: whether it prints as wanted.
 fn prints(alloc: Global, row: &Print) -> Result<bool, Fail> {
-    let mut shelf = shelf_for(alloc, row)?;
+    let mut shelf = shelf_of_row(alloc, row)?;
     let mut sink = MemSink::new(alloc, Bytes::copy_of(alloc, row.writes)?);
     let left = give(alloc, row.words, &mut shelf, &row.failing, &mut sink)?;
     Ok(is_left(&left, sink.bytes(), row))

@@ -1,6 +1,8 @@
 // Whole runs on machines in memory: how they end, the bytes that they release, and the history that they write.
+ghost use Rattle.std.specs.Prelude.{◌<◌};
+
 use super::*;
-use crate::tests::{Failing, File, Left, NONE, give, put_files, shelf_of};
+use crate::tests::{Failing, File, Left, NONE, append_times, give, put_files, shelf_of, turns_and};
 use rand_core::Rng;
 use rand_pcg::Pcg32;
 use seq_shelf::{MemShelf, SoundSink};
@@ -136,7 +138,6 @@ const TWO: &str =
     "sequoia 1\nprocessors 2\nmemories 2\nios 2\ncache 16\nquantum 1000\njournal 32\nsegment 32\nprocess count.sqi lines 0 segments 0\nprocess count.sqi lines - segments 0\n";
 
 // A machine, a schedule and what fails; how the run ends, the bytes of line 0, and the history: process and steps of each entry.
-#[derive(Clone, Copy)]
 struct Run {
     machine: &'static str,
     schedule: &'static str,
@@ -502,11 +503,12 @@ static RUNS: [Run; 36] = [
     },
 ];
 
-// A shelf with a machine, a schedule, and the images of all programs.
-fn shelf_for(
+// A shelf with a machine, a schedule and images of programs.
+pub(crate) fn shelf_for(
     alloc: Global,
     machine: &str,
     schedule: &[u8],
+    programs: &[File<'_>],
     loads: &[u8],
 ) -> Result<MemShelf, NoMemory> {
     let files = [
@@ -520,13 +522,13 @@ fn shelf_for(
         },
     ];
     let mut shelf = shelf_of(alloc, &files, loads)?;
-    put_files(&mut shelf, &PROGRAMS)?;
+    put_files(&mut shelf, programs)?;
     Ok(shelf)
 }
 
 // Runs a schedule on a machine.
 fn run_on(alloc: Global, machine: &str, schedule: &[u8], failing: &Failing) -> Result<Left, Fail> {
-    let mut shelf = shelf_for(alloc, machine, schedule, failing.loads)?;
+    let mut shelf = shelf_for(alloc, machine, schedule, &PROGRAMS, failing.loads)?;
     let mut sink = SoundSink::new(alloc);
     give(
         alloc,
@@ -577,6 +579,15 @@ const FOUR: &str =
 const EIGHT: &str =
     "sequoia 1\nprocessors 8\nmemories 8\nios 1\ncache 16\nquantum 7\njournal 32\nsegment 32\nprocess count.sqi lines 0 segments 0\nprocess count.sqi lines - segments 0\n";
 
+fn append_turn(text: &mut Vec<u8>, processor: u8) -> Result<(), AllocError>
+    requires { processor < 8 }
+{
+    text.extend_from_slice(b"turn p")?;
+    text.push(b'0' + processor)?;
+    text.push(b'\n')?;
+    Ok(())
+}
+
 // Turns of processors in an order that is drawn from a number, and then the rest of the run.
 fn drawn_schedule(alloc: Global, number: u64, processors: u8) -> Result<Vec<u8>, AllocError> {
     let mut generator = Pcg32::new(number, 0);
@@ -584,12 +595,10 @@ fn drawn_schedule(alloc: Global, number: u64, processors: u8) -> Result<Vec<u8>,
     for _ in 0..20_000 {
         let drawn = (generator.next_u32() % 8) as u8;
         if drawn < processors {
-            text.extend_from_slice(b"turn p")?;
-            text.push(b'0' + drawn)?;
-            text.push(b'\n')?;
+            append_turn(&mut text, drawn)?;
         }
     }
-    text.extend_from_slice(b"finish 1000000\n")?;
+    append_times(&mut text, 1, "finish 1000000\n")?;
     Ok(text)
 }
 
@@ -642,20 +651,6 @@ static FAILURES: [&str; 7] = [
     "fail p1\nturns p0 3\nfail p0\nrepair p1\nrepair p0\nfinish 10000\n",
 ];
 
-// So many turns of processor 0, and what follows.
-fn failing_schedule(
-    alloc: Global,
-    turns: u64,
-    failures: &'static str,
-) -> Result<Vec<u8>, AllocError> {
-    let mut text = Vec::new(alloc);
-    for _ in 0..turns {
-        text.extend_from_slice(b"turn p0\n")?;
-    }
-    text.extend_from_slice(failures.as_bytes())?;
-    Ok(text)
-}
-
 // Runs a schedule on two processors: whether the byte is sent, and the steps are committed once.
 pub(crate) fn comes_through(alloc: Global, schedule: &[u8]) -> Result<bool, Fail> {
     let left = run_on(alloc, PAIR, schedule, &NONE)?;
@@ -665,7 +660,7 @@ pub(crate) fn comes_through(alloc: Global, schedule: &[u8]) -> Result<bool, Fail
 // Runs one of the failures after so many turns.
 fn recovers(alloc: Global, number: u64) -> Result<bool, Fail> {
     let failures = FAILURES[(number % 7) as usize];
-    let schedule = failing_schedule(alloc, number / 7, failures)?;
+    let schedule = turns_and(alloc, number / 7, failures)?;
     comes_through(alloc, schedule.as_slice())
 }
 
@@ -679,17 +674,16 @@ fn recovers_at_every_turn(rt: HostRuntime) -> Result<(), Fail> {
     Ok(())
 }
 
+// Each processor fails once, and is repaired behind twelve rounds.
+const TWO_FAILURES: &str =
+    "fail p0\nround 12\nrepair p0\nround 13\nfail p1\nround 12\nrepair p1\nround 13\n";
+
 // Some rounds, then a failure of a processor at every hundredth turn, of either in turn, and then the rest of the run.
 fn failing_rounds(alloc: Global, rounds: u64) -> Result<Vec<u8>, AllocError> {
     let mut text = Vec::new(alloc);
-    for _ in 0..rounds {
-        text.extend_from_slice(b"round 1\n")?;
-    }
-    for _ in 0..100 {
-        text.extend_from_slice(b"fail p0\nround 12\nrepair p0\nround 13\n")?;
-        text.extend_from_slice(b"fail p1\nround 12\nrepair p1\nround 13\n")?;
-    }
-    text.extend_from_slice(b"finish 1000000\n")?;
+    append_times(&mut text, rounds, "round 1\n")?;
+    append_times(&mut text, 100, TWO_FAILURES)?;
+    append_times(&mut text, 1, "finish 1000000\n")?;
     Ok(text)
 }
 

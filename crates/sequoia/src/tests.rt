@@ -23,7 +23,6 @@ pub(crate) const HELLO: [u8; 49] = [
 ];
 
 // The numbers of the calls that are to fail.
-#[derive(Clone, Copy)]
 pub(crate) struct Failing {
     pub(crate) loads: &'static [u8],
     pub(crate) appends: &'static [u8],
@@ -37,7 +36,6 @@ pub(crate) const NONE: Failing = Failing {
 };
 
 // A machine, a schedule, what fails, and how the run ends: the status, the bytes of line 0, the entries of the history.
-#[derive(Clone, Copy)]
 struct Row {
     machine: &'static str,
     schedule: &'static str,
@@ -222,7 +220,7 @@ static ROWS: [Row; 16] = [
     },
 ];
 
-pub(crate) fn words_of(alloc: Global, words: &[&str]) -> Result<Vec<String>, AllocError> {
+fn words_of(alloc: Global, words: &[&str]) -> Result<Vec<String>, AllocError> {
     let mut all = Vec::new(alloc);
     for word in words {
         all.push(String::from_str(alloc, word)?)?;
@@ -252,6 +250,7 @@ impl Heard {
     }
 }
 
+// The accepted byte with that index, where one of the lines has it.
 fn byte_at(lines: &[Outlet], at: usize, index: u64) -> Option<u8> {
     match lines.get(at) {
         Some(outlet) => outlet.line.byte_at(index),
@@ -259,7 +258,7 @@ fn byte_at(lines: &[Outlet], at: usize, index: u64) -> Option<u8> {
     }
 }
 
-// What one of the lines has accepted. It is asked for one byte more than it has, too.
+// What one of the lines has accepted. It is also asked for the byte behind the last one, and should have none there.
 fn hear(alloc: Global, lines: &[Outlet], at: usize) -> Result<Option<Heard>, NoMemory> {
     if at >= lines.len() {
         return Ok(None);
@@ -287,6 +286,7 @@ pub(crate) struct Left {
     pub(crate) second: Heard,
 }
 
+// Looks at the lines, behind a command.
 fn leave(
     alloc: Global,
     status: Status,
@@ -428,7 +428,6 @@ const LONG_IMAGE: [u8; 17] = [
 ];
 
 // A command that is answered before any run: the words, the description, the image, what fails, and the status.
-#[derive(Clone, Copy)]
 struct Early {
     words: &'static [&'static str],
     machine: &'static str,
@@ -642,22 +641,27 @@ fn openings(rt: HostRuntime) -> Result<(), Fail> {
     are_answered(&rt, rt.alloc(), &OPENINGS)
 }
 
-// A schedule of so many turns of the processor, and rounds to the end.
-fn turns(alloc: Global, count: usize) -> Result<Vec<u8>, AllocError> {
-    let mut text = Vec::new(alloc);
-    for _ in 0..count {
-        text.extend_from_slice(b"turn p0\n")?;
+// So many times these lines.
+pub(crate) fn append_times(text: &mut Vec<u8>, times: u64, lines: &str) -> Result<(), AllocError> {
+    for _ in 0..times {
+        text.extend_from_slice(lines.as_bytes())?;
     }
-    text.extend_from_slice(b"finish 1000\n")?;
+    Ok(())
+}
+
+// A schedule of so many turns of processor 0, and what follows them.
+pub(crate) fn turns_and(alloc: Global, turns: u64, then: &str) -> Result<Vec<u8>, AllocError> {
+    let mut text = Vec::new(alloc);
+    append_times(&mut text, turns, "turn p0\n")?;
+    append_times(&mut text, 1, then)?;
     Ok(text)
 }
 
 // A command over files: the words, the turns of the processor, the exit status, and the bytes of line 0 in its file, where
 // there is one.
-#[derive(Clone, Copy)]
 struct OverFiles {
     words: &'static [&'static str],
-    turns: usize,
+    turns: u64,
     code: u8,
     bytes: Option<&'static str>,
 }
@@ -726,7 +730,7 @@ fn give_on_files(rt: &HostRuntime, words: &[&str]) -> Result<Status, Fail> {
 
 // The exit status of a command over these files.
 fn code_over_files(rt: &HostRuntime, command: &OverFiles) -> Result<ExitCode, Fail> {
-    let schedule = turns(rt.alloc(), command.turns)?;
+    let schedule = turns_and(rt.alloc(), command.turns, "finish 1000\n")?;
     fs::write(rt, "s.txt", schedule.as_slice())?;
     let status = give_on_files(rt, command.words)?;
     Ok(exit_code(&status))
@@ -741,6 +745,12 @@ fn held(rt: &HostRuntime, name: &str, wanted: Option<&str>) -> Result<bool, Fail
     Ok(found.as_ref().map(|text| text.as_str()) == wanted)
 }
 
+// Writes the description and the image of the commands.
+fn write_inputs(rt: &HostRuntime) -> io::Result<()> {
+    fs::write(rt, "a1.txt", MACHINE.as_bytes())?;
+    fs::write(rt, "hello.sqi", HELLO.as_slice())
+}
+
 // Whether a command over files ends so, with these bytes in the file of line 0.
 fn is_given(rt: &HostRuntime, command: &OverFiles) -> Result<bool, Fail> {
     let code = code_over_files(rt, command)?;
@@ -750,8 +760,7 @@ fn is_given(rt: &HostRuntime, command: &OverFiles) -> Result<bool, Fail> {
 
 #[test]
 fn over_files(rt: HostRuntime) -> Result<(), Fail> {
-    fs::write(&rt, "a1.txt", MACHINE)?;
-    fs::write(&rt, "hello.sqi", HELLO)?;
+    write_inputs(&rt)?;
     for (number, command) in COMMANDS.iter().enumerate() {
         assert!(rt; is_given(&rt, command)?, "{}", number);
     }
@@ -816,7 +825,6 @@ impl Env for Told {
 }
 
 // A command line with the first of the words that are read, and how many those are: none where the words can't be read.
-#[derive(Clone, Copy)]
 struct CommandLine {
     words: &'static [&'static [u8]],
     wanted: Option<(&'static str, usize)>,
@@ -841,6 +849,7 @@ static COMMAND_LINES: [CommandLine; 4] = [
     },
 ];
 
+// Whether the words begin so, and are so many.
 fn begin_so(found: &[String], wanted: Option<(&str, usize)>) -> bool {
     let first = found.first().map_or("", |word| word.as_str());
     Some((first, found.len())) == wanted
