@@ -711,7 +711,7 @@ fn give_over_files(
 {
     let alloc = rt.alloc();
     let words = words_of(alloc, words)?;
-    let mut shelf = FileShelf::new(rt, alloc);
+    let mut shelf = FileShelf::new(rt.clone()?, alloc);
     let mut sink = OutSink::new(Some(rt));
     let mut chronicle = SoundChronicle::new(alloc);
     Ok(sequoia(alloc, &words, &mut shelf, lines, &mut chronicle, &mut sink))
@@ -809,9 +809,7 @@ impl Env for Told {
         if word.len() > buf.len() {
             return Err(FillError::TooLong);
         }
-        for (to, from) in buf.iter_mut().zip(word.iter()) {
-            *to = *from;
-        }
+        buf[..word.len()].copy_from_slice(word);
         Ok(word.len())
     }
 
