@@ -40,3 +40,4 @@ pub mod Shown
 pub mod Depends
 pub mod TurnCauses
 pub mod Halves
+pub mod Plainly

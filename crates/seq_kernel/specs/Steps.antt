@@ -1,5 +1,5 @@
 -- One turn of a running process: an instruction, a kernel call or a trap.
-use Rattle.std.specs.Prelude.{◌≡◌}
+use Rattle.std.specs.Prelude.{◌≡◌, Bool, true, false}
 use Rattle.seq_words.specs.declared.description.MachineDesc.{MachineDesc}
 use Rattle.seq_flat.specs.declared.state.End.TheVariants.{Trapped}
 use Rattle.seq_rv32.specs.declared.effects.Effect.{Effect}
@@ -12,9 +12,27 @@ use Rattle.seq_process.specs.declared.running.Running.{Running}
 use Rattle.seq_cache.specs.Changes.{Changes}
 use Rattle.seq_kernel.specs.declared.outcomes.Outcome.TheVariants.{Done, NeedsFlush, Diverged}
 use Rattle.seq_kernel.specs.declared.outcomes.Cause.TheVariants as cause
+use Rattle.seq_kernel.specs.declared.steps.Kind.{Kind}
+use Rattle.seq_kernel.specs.declared.steps.Kind.TheVariants as kind
 use Rattle.seq_kernel.specs.Views.{read_by, seen, admission, with_store}
 use Rattle.seq_kernel.specs.Turns.{Turned, stays, counted, ended}
 use Rattle.seq_kernel.specs.Calls.{AgreeOnCall, call_of}
+
+-- what a turn of the pair comes to, whatever it wrote
+abbrev pub kind_of : Turn → Kind
+kind_of (turn.Agreed (effect.Next wrote store next)) = kind.Made
+kind_of (turn.Agreed effect.Call) = kind.Call
+kind_of (turn.Agreed (effect.Trap code)) = kind.Trap code
+kind_of (turn.Agreed effect.Full) = kind.Full
+kind_of turn.Diverged = kind.Diverged
+
+-- whether it is an instruction that was made, after which the next one follows
+abbrev pub is_plain : Turn → Bool
+is_plain (turn.Agreed (effect.Next wrote store next)) = true
+is_plain (turn.Agreed effect.Call) = false
+is_plain (turn.Agreed (effect.Trap code)) = false
+is_plain (turn.Agreed effect.Full) = false
+is_plain turn.Diverged = false
 
 -- after both halves agreed on an effect
 abbrev pub after_effect : MachineDesc → Copies → Running → Changes → Effect → Turned

@@ -15,7 +15,7 @@ pub use laws::{
     steps_change_bytes_or_owner, steps_keep_bounds, steps_keep_cache, turns_are_counted,
 };
 pub use outcomes::{Cause, Note, Outcome, Reason};
-pub use steps::{grant, step};
+pub use steps::{grant, step, step_plainly};
 pub use turn_laws::{
     halves_stay, shown_by_the_area, turns_depend_on_the_area, turns_have_their_cause,
 };

@@ -4,6 +4,7 @@ pub mod Capacities
 pub mod Acquiring
 pub mod RunLeft
 pub mod Tied
+pub mod PlainTurns
 pub mod Given
 pub mod Returning
 pub mod Answering

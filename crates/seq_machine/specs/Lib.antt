@@ -1,6 +1,7 @@
 pub mod Here
 pub mod Plain
 pub mod Runs
+pub mod PlainTurns
 pub mod Processors
 pub mod Needs
 pub mod Rows

@@ -14,6 +14,7 @@ mod hardware;
 mod io;
 mod laws;
 mod operations;
+mod plainly;
 mod ports;
 mod processor;
 mod recovers;
