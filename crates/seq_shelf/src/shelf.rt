@@ -51,6 +51,9 @@ pub trait Shelf {
         ensures above_limit { (map : Map) (bytes : List ℕ) → (shelf self.old).told ≡ Some map →
             map name.now ≡ Some bytes → limit < length bytes →
             AnswersUnlessFailed result LoadError.TooLong }
+
+        // The limit holds also where the map isn't told.
+        ensures within { IfOk result (λ bytes. length bytes ≤ limit) }
         ensures fault { HasCause LoadError.Failed (shelf self.old).faults (shelf self.new).faults result };
 
     /// Makes `bytes` the content of the file of that name. After an error that file, and no other, may differ.
