@@ -1,5 +1,5 @@
 -- A text, line by line.
-use Rattle.std.proofs.Common.{◌≡◌, ℕ, ◌+◌, ◌<◌, ◌≤◌, Some, None, List, [], ◌∷◌, ◌++◌, length, refl, sym, ap, subst, ◌∙◌, append_assoc, arith}
+use Rattle.std.proofs.Common.{◌≡◌, ◌≢◌, ℕ, ◌+◌, ◌<◌, ◌≤◌, Some, None, List, [], ◌∷◌, ◌++◌, length, refl, sym, ap, subst, ◌∙◌, append_assoc, arith}
 use Rattle.std.proofs.lemmas.List.{append-nil, nil_from_length}
 use Rattle.seq_words.specs.declared.description.MachineDesc.{MachineDesc}
 use Rattle.seq_words.specs.Description.{IsDescription}
@@ -107,3 +107,15 @@ reading_ends gate d text rest t items place r e = sym r.fault ∙ ap (fault_from
 
 pub reading_items : (gate : Gate) (d : MachineDesc) (text rest : List ℕ) (t : Tally) (items : List Item) (place : ℕ) → IsReading gate d text t items place rest → length rest ≡ 0 → items ≡ items_of gate text
 reading_items gate d text rest t items place r e = sym (append-nil items) ∙ ap (λ is. items ++ is) (sym (ap (items_from gate place) (ap lines_of (nil_from_length rest e) ∙ lines_of-nil) ∙ items_from-nil gate place)) ∙ r.items
+
+-- where nothing stands in a row, nothing stands in its middle
+none_behind : (xs ys zs : List Item) → xs ++ (ys ++ zs) ≡ [] → ys ≡ []
+none_behind [] [] zs e = refl
+none_behind [] (y ∷ ys) zs e = cc
+none_behind (x ∷ xs) ys zs e = cc
+
+-- an item of a line is one of the text
+pub reading_takes : (gate : Gate) (d : MachineDesc) (text line rest after : List ℕ) (t : Tally) (items : List Item) (place : ℕ) → IsReading gate d text t items place rest → lines_of rest ≡ line ∷ lines_of after → item_at place (said gate (words_of line)) ≢ [] → items_of gate text ≢ []
+reading_takes gate d text line rest after t items place r cut some none =
+    some (none_behind items (item_at place (said gate (words_of line))) (items_from gate (place + 1) (lines_of after))
+    (ap (λ is. items ++ is) (sym (items_from-cons gate place line (lines_of after)) ∙ ap (items_from gate place) (sym cut)) ∙ r.items ∙ none))

@@ -1,5 +1,5 @@
 -- What a line of a schedule says.
-use Rattle.std.specs.Prelude.{ℕ, ◌==◌, if◌then◌else◌, codes, slice_index, Option, Some, None, List, [], ◌∷◌, drop, take}
+use Rattle.std.specs.Prelude.{ℕ, Bool, true, false, ◌==◌, if◌then◌else◌, codes, slice_index, Option, Some, None, List, [], ◌∷◌, drop, take}
 use Rattle.std.specs.Option.{option_map}
 use Rattle.std.specs.Str.{bytes_eq}
 use Rattle.seq_words.specs.declared.names.Pe.{Pe}
@@ -139,3 +139,8 @@ taken_said gate (Some form) words = if is_taken gate form then form_said form wo
 unfoldable pub said : Gate → List (List ℕ) → Said
 said gate [] = Passed
 said gate (key ∷ words) = if slice_index key 0 == 35 then Passed else taken_said gate (form_named key) words
+
+-- the bytes of an input are said
+abbrev pub says_bytes : Said → Bool
+says_bytes (Says (scripts.Bytes l bytes)) = true
+says_bytes _ = false

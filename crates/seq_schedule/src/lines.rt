@@ -1,8 +1,8 @@
 // What a line of a schedule says.
-ghost use Rattle.std.specs.Prelude.{◌≡◌, ◌≢◌, ◌∷◌, ◌==◌, [], true, false, not, length, slice_index, take, drop, codes, MatchOption, IfOk};
+ghost use Rattle.std.specs.Prelude.{◌≡◌, ◌≢◌, ◌∷◌, ◌==◌, [], true, false, not, length, slice_index, take, drop, codes, MatchOption, IfOk, OnErr};
 ghost use Rattle.std.specs.Str.{bytes_eq};
 ghost use Rattle.seq_text.specs.Words.{words_of};
-ghost use Rattle.seq_schedule.specs.Said.{with_one, with_two, with_four, turn_said, turns_said, round_said, finish_said, input_said, close_said, hangup_said, fail_said, repair_said, strike_of, upset_said, form_said, taken_said, said};
+ghost use Rattle.seq_schedule.specs.Said.{with_one, with_two, with_four, turn_said, turns_said, round_said, finish_said, input_said, close_said, hangup_said, fail_said, repair_said, strike_of, upset_said, form_said, taken_said, said, says_bytes};
 ghost use Rattle.seq_schedule.specs.Forms.{form_named};
 ghost use Rattle.seq_schedule.specs.Numbers.{number_within, mask_of};
 
@@ -169,7 +169,8 @@ fn finish(line: &[u8]) -> Said
 
 #[tactic(auto, unfolding(crate::specs::Said::input_said), using(crate::proofs::Arities::two_none))]
 fn input(alloc: Global, line: &[u8]) -> Result<Said, NoMemory>
-    ensures { IfOk result (λ s. s ≡ with_two input_said (words_of line.now)) }
+    ensures value { IfOk result (λ s. s ≡ with_two input_said (words_of line.now)) }
+    ensures refused { OnErr result (says_bytes (with_two input_said (words_of line.now)) ≡ true) }
 {
     let Some((number, digits)) = two_words(line) else {
         return Ok(Said::NoForm);
@@ -295,7 +296,8 @@ fn upset(line: &[u8]) -> Said
 // What the words behind the first say in a line of this form.
 #[tactic(auto, unfolding(crate::specs::Said::form_said))]
 fn form_said(alloc: Global, form: Form, line: &[u8]) -> Result<Said, NoMemory>
-    ensures { IfOk result (λ s. s ≡ form_said form (words_of line.now)) }
+    ensures value { IfOk result (λ s. s ≡ form_said form (words_of line.now)) }
+    ensures refused { OnErr result (says_bytes (form_said form (words_of line.now)) ≡ true) }
 {
     match form {
         Form::Turn => Ok(turn(line)),
@@ -312,7 +314,8 @@ fn form_said(alloc: Global, form: Form, line: &[u8]) -> Result<Said, NoMemory>
 }
 
 fn taken_said(alloc: Global, gate: Gate, key: &[u8], rest: &[u8]) -> Result<Said, NoMemory>
-    ensures { IfOk result (λ s. s ≡ taken_said gate (form_named key.now) (words_of rest.now)) }
+    ensures value { IfOk result (λ s. s ≡ taken_said gate (form_named key.now) (words_of rest.now)) }
+    ensures refused { OnErr result (says_bytes (taken_said gate (form_named key.now) (words_of rest.now)) ≡ true) }
 {
     match form_named(key) {
         None => Ok(Said::NoForm),
@@ -329,7 +332,10 @@ fn taken_said(alloc: Global, gate: Gate, key: &[u8], rest: &[u8]) -> Result<Said
 /// What a line says, where only what the gate lets through is taken.
 #[tactic(auto, unfolding(crate::specs::Said::said))]
 pub fn read_line(alloc: Global, gate: Gate, line: &[u8]) -> Result<Said, NoMemory>
-    ensures { IfOk result (λ s. s ≡ said gate (words_of line.now)) }
+    ensures value { IfOk result (λ s. s ≡ said gate (words_of line.now)) }
+
+    // Nothing but bytes takes memory.
+    ensures refused { OnErr result (says_bytes (said gate (words_of line.now)) ≡ true) }
 {
     let Some((key, rest)) = first_word(line) else {
         return Ok(Said::Passed);

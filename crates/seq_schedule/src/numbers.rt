@@ -1,5 +1,5 @@
 // The numbers of a schedule: how often, which line, which register, and what hexadecimal digits write.
-ghost use Rattle.std.specs.Prelude.{◌≡◌, ◌≤◌, ◌<◌, ◌^◌, ◌+◌, ◌*◌, ◌/◌, true, length, nat_lt, map, IfSome, IfOk};
+ghost use Rattle.std.specs.Prelude.{◌≡◌, ◌≤◌, ◌<◌, ◌^◌, ◌+◌, ◌*◌, ◌/◌, true, length, nat_lt, map, is_some, IfSome, IfOk, OnErr};
 ghost use Rattle.std.specs.List.{range_with_len};
 ghost use Rattle.std.specs.Option.{option_map};
 ghost use Rattle.seq_schedule.specs.Numbers.{if_within, number_within, line_numbered, line_named, hex_value, is_hex, hex_number, mask_of, hex_byte, bytes_of};
@@ -127,7 +127,10 @@ fn hex_bytes(alloc: Global, word: &[u8]) -> Result<Bytes, NoMemory>
 /// The bytes that an even number of hexadecimal digits writes, two each. There is at least one.
 #[tactic(auto, unfolding(crate::specs::Numbers::bytes_of))]
 pub fn bytes_of(alloc: Global, word: &[u8]) -> Result<Option<Bytes>, NoMemory>
-    ensures { IfOk result (λ bytes. bytes ≡ bytes_of word.now) }
+    ensures value { IfOk result (λ bytes. bytes ≡ bytes_of word.now) }
+
+    // Nothing but bytes takes memory.
+    ensures refused { OnErr result (is_some (bytes_of word.now) ≡ true) }
 {
     if word.len() < 2 || word.len() % 2 != 0 || !is_hex(word) {
         return Ok(None);

@@ -1,4 +1,4 @@
-ghost use Rattle.std.specs.Prelude.{◌≡◌, ◌++◌, ℕ, Some, None, OnOk, IfOk, ◌⊎◌};
+ghost use Rattle.std.specs.Prelude.{◌≡◌, ◌≢◌, ◌++◌, ℕ, [], Some, None, Err, OnOk, OnErr, IfOk, ◌⊎◌};
 ghost use Rattle.seq_words.specs.Description.{IsDescription};
 ghost use Rattle.seq_text.specs.Words.{words_of};
 ghost use Rattle.seq_schedule.specs.declared.forms.Gate.TheVariants.{Built};
@@ -54,6 +54,7 @@ impl Reader {
         requires fits { line_rule desc.now (told self.old.tally) place said ≡ None }
         ensures tally { OnOk result (self.new.tally ≡ after_said desc.now self.old.tally said) }
         ensures items { OnOk result (self.new.items ≡ self.old.items ++ item_at place said) }
+        ensures refused { OnErr result (item_at place said ≢ []) }
     {
         match said {
             Said::Passed => Ok(()),
@@ -89,6 +90,7 @@ impl Reader {
         ensures none { OnOk result (line_rule desc.now (told self.old.tally) place (said gate (words_of line.now)) ≡ None) }
         ensures tally { OnOk result (self.new.tally ≡ after_said desc.now self.old.tally (said gate (words_of line.now))) }
         ensures items { OnOk result (self.new.items ≡ self.old.items ++ item_at place (said gate (words_of line.now))) }
+        ensures memory { result ≡ Err ReadError.NoMemory → item_at place (said gate (words_of line.now)) ≢ [] }
     {
         let said = match read_line(alloc, gate, line) {
             Ok(said) => said,
@@ -115,6 +117,7 @@ fn read_lines(
     ensures none { OnOk result (first_fault gate desc.now text.now ≡ None) }
     ensures refused { (place rule : ℕ) → result ≡ Err (ReadError.Refused place rule) →
         first_fault gate desc.now text.now ≡ Some (place, rule) }
+    ensures memory { result ≡ Err ReadError.NoMemory → items_of gate text.now ≢ [] }
 {
     let mut reader = Reader {
         tally: Tally::new(),
@@ -156,6 +159,9 @@ pub fn read(
         first_fault gate desc.now text.now ≡ Some (place, rule) }
     ensures faulty { (place rule : ℕ) → first_fault gate desc.now text.now ≡ Some (place, rule) →
         (result ≡ Err (ReadError.Refused place rule)) ⊎ (result ≡ Err ReadError.NoMemory) }
+
+    // Nothing but items takes memory.
+    ensures memory { result ≡ Err ReadError.NoMemory → items_of gate text.now ≢ [] }
 {
     read_lines(alloc, gate, text, desc)
 }
@@ -171,6 +177,7 @@ pub fn parse(alloc: Global, text: &[u8], desc: &MachineDesc) -> Result<Items<Ite
         first_fault Built desc.now text.now ≡ Some (place, rule) }
     ensures faulty { (place rule : ℕ) → first_fault Built desc.now text.now ≡ Some (place, rule) →
         (result ≡ Err (ReadError.Refused place rule)) ⊎ (result ≡ Err ReadError.NoMemory) }
+    ensures memory { result ≡ Err ReadError.NoMemory → items_of Built text.now ≢ [] }
 {
     read(alloc, Gate::Built, text, desc)
 }

@@ -1,6 +1,7 @@
-use Rattle.std.proofs.Common.{sym, ap, Err}
+use Rattle.std.proofs.Common.{◌≡◌, sym, ap, Err}
+use Rattle.seq_words.specs.declared.events.ReadError.TheVariants.{NoMemory}
 use Rattle.std.proofs.lemmas.Bool.{eqb-true}
-use Rattle.seq_schedule.proofs.Texts.{reading_starts, reading_goes, reading_stops, reading_ends, reading_items}
+use Rattle.seq_schedule.proofs.Texts.{reading_starts, reading_goes, reading_stops, reading_takes, reading_ends, reading_items}
 use Rattle.seq_schedule.proofs.Answers.{refused_here}
 use Rattle.seq_schedule.proofs.reading.read_lines.Goals as goal
 
@@ -20,3 +21,8 @@ returns-clause-items c = reading_items c.args.gate c.args.desc.now c.args.text.n
 
 pub returns-clause-none : goal.returns-clause-none
 returns-clause-none c = reading_ends c.args.gate c.args.desc.now c.args.text.now c.lines.rest.now c.lines.reader.tally c.lines.reader.items c.lines.place c.lines.invariant (eqb-true _ _ (sym c.lines-test.ensures))
+
+pub returns-in-Err-clause-memory : goal.returns-in-Err-clause-memory
+returns-in-Err-clause-memory c = λ e.
+    let refused : c.in-Err.error ≡ NoMemory = cc in
+    reading_takes c.args.gate c.args.desc.now c.args.text.now c.next_line.result.0.now c.lines.rest.now c.next_line.result.1.now c.lines.reader.tally c.lines.reader.items c.lines.place c.lines.invariant c.next_line.ensures.lines (c.in-Err.ensures.memory (ap Err refused))
