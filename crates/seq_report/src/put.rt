@@ -1,5 +1,5 @@
 // What texts are made of.
-ghost use Rattle.std.specs.Prelude.{◌≡◌, ◌++◌, codes, decimal, OnOk};
+ghost use Rattle.std.specs.Prelude.{◌≡◌, ◌++◌, false, codes, decimal, IsOk, OnOk};
 ghost use Rattle.seq_report.specs.Texts.{element_name, blocker_name, end_words, hung_words};
 
 use itoa::Buffer;
@@ -57,9 +57,10 @@ pub fn put_end(out: &mut Bytes, end: End) -> Result<(), NoMemory>
     }
 }
 
-/// That a line is hung up, where it is.
+/// That a line is hung up, where it is. Of a line that isn't, it writes nothing, and takes no memory.
 pub fn put_hung(out: &mut Bytes, hung: bool) -> Result<(), NoMemory>
-    ensures { OnOk result (out.new ≡ out.old ++ hung_words hung) }
+    ensures after { OnOk result (out.new ≡ out.old ++ hung_words hung) }
+    ensures quiet { hung ≡ false → IsOk result }
 {
     if hung {
         out.append(b" hung up")
