@@ -54,7 +54,7 @@ impl Hardware {
     }
 
     // A turn of a processor. What it commits is told to the chronicle first: where that fails, nothing has changed.
-    #[inline(never)]
+    #[inline(always)]
     fn told_turn<C: Chronicle>(&mut self, pe: Pe, chronicle: &mut C) -> Result<Note, Stop>
         requires hardware { IsHardware self.old }
         requires may { MayTurn self.old pe.0 }
