@@ -76,30 +76,6 @@ impl Hardware {
         self.processor_turn(pe)
     }
 
-    // A turn of a processor. A plain one, of which a run mostly consists, goes by a way of its own.
-    #[inline(always)]
-    fn processor_event<C: Chronicle>(&mut self, pe: Pe, chronicle: &mut C) -> Result<Note, Stop>
-        requires hardware { IsHardware self.old }
-        requires may { MayTurn self.old pe.0 }
-        ensures machine { (o : Outside) → OnOk result (machine_of self.new (outside_of (happens self.old.desc (machine_of self.old o) (event.Processor pe))) ≡ happens self.old.desc (machine_of self.old o) (event.Processor pe)) }
-        ensures note { (o : Outside) → IfOk result (λ n. n ≡ note self.old.desc (machine_of self.old o) (event.Processor pe)) }
-        ensures unchecked { (o : Outside) → OnOk result (check self.old.desc (machine_of self.old o) (event.Processor pe) ≡ None) }
-        ensures entries { IfOk result (λ n. Grows (C.chronicle chronicle.old).told (C.chronicle chronicle.new).told (entries_in n)) }
-        ensures unsent { IfOk result (λ n. (l : ℕ) → sent_in n l ≡ []) }
-        ensures stays { IfErr result (StaysUnlessCheck self.old self.new) }
-        ensures stopped { (o : Outside) → IfErr result (λ s. machine_of self.new (outside_of (machine_left self.old.desc (machine_of self.old o) (event.Processor pe) s)) ≡ machine_left self.old.desc (machine_of self.old o) (event.Processor pe) s) }
-        ensures err_entries { OnErr result ((C.chronicle chronicle.new).told ≡ (C.chronicle chronicle.old).told) }
-        ensures cause { (o : Outside) (before after : List LineView) → IfErr result (EndsFor self.old.desc (machine_of self.old o) (event.Processor pe) before after (C.chronicle chronicle.old) (C.chronicle chronicle.new)) }
-        ensures counts { CountsStay (C.chronicle chronicle.old) (C.chronicle chronicle.new) }
-        ensures hardware { IsHardware self.new }
-        ensures desc { self.new.desc ≡ self.old.desc }
-    {
-        match self.plain_turn(pe) {
-            Some(pid) => Ok(Note::Ran(pid)),
-            None => self.told_turn(pe, chronicle),
-        }
-    }
-
     /// Makes an event, which may be made: the machine is that of the table then, with the table's note. The lines accept the byte of
     /// a note that says so and nothing else, and the chronicle gets the entry of a note that says so. The run ends where the line or
     /// the chronicle that the note would have asked has a fault, or was refused memory: then nothing has changed. It ends at a machine
@@ -141,7 +117,7 @@ impl Hardware {
         ensures fit { OnOk result (Fit self.new.desc (machine_of self.new no_outside)) }
     {
         match event {
-            Event::Processor(pe) => self.processor_event(pe, chronicle),
+            Event::Processor(pe) => self.told_turn(pe, chronicle),
             Event::Io(io) => self.io_turn(io, lines),
             Event::Input(line, byte) => {
                 self.input(line, byte);

@@ -1,7 +1,6 @@
 // The plain turn of a processor: its process takes a step and goes on, and nothing else happens.
-ghost use Rattle.std.specs.Prelude.{◌≡◌, ℕ, ◌<◌, IfSome, None, true, false};
+ghost use Rattle.std.specs.Prelude.{◌≡◌, ℕ, IfSome, None, true, false};
 ghost use Rattle.seq_words.specs.Description.{IsDescription};
-ghost use Rattle.seq_words.specs.declared.events.Event.TheVariants as event;
 ghost use Rattle.seq_flat.specs.declared.state.End.TheVariants.{Live};
 ghost use Rattle.seq_layout.specs.Shapes.{shape_of};
 ghost use Rattle.seq_layout.specs.Copies.{Matches, copies};
@@ -9,10 +8,11 @@ ghost use Rattle.seq_kernel.specs.Bounds.{IsWithin, AreReadable};
 ghost use Rattle.seq_process.specs.declared.running.Running.{Running};
 ghost use Rattle.seq_turns.specs.declared.hand.Hand.TheVariants as hand;
 ghost use Rattle.seq_turns.specs.Processors.{runs};
-ghost use Rattle.seq_turns.specs.Events.{happens};
+ghost use Rattle.seq_turns.specs.Reading.{copied_memory};
 ghost use Rattle.seq_machine.specs.Here.{here};
-ghost use Rattle.seq_machine.specs.Plain.{Outside, machine_of, outside_of, IsHardware};
-ghost use Rattle.seq_machine.specs.Processors.{RunNeeds, MayTurn, local_turn};
+ghost use Rattle.seq_machine.specs.Plain.{IsHardware, processor_of};
+ghost use Rattle.seq_machine.specs.Settling.{held_copies};
+ghost use Rattle.seq_machine.specs.Processors.{RunNeeds, MayTurn, local_turn, copied_by};
 ghost use Rattle.seq_machine.specs.PlainTurns.{plain_move, GoesOn};
 
 use crate::{Hardware, Processor};
@@ -70,22 +70,18 @@ impl Processor {
 }
 
 impl Hardware {
-    /// The plain turn of a processor: the process that took a step. None where its turn is another one, or a memory is to be copied,
+    /// The plain turn of a processor by which no memory is copied: the process that took a step. None where its turn is another one,
     /// and then nothing has changed.
     #[inline(always)]
     pub(crate) fn plain_turn(&mut self, pe: Pe) -> Option<Pid>
         requires hardware { IsHardware self.old }
         requires may { MayTurn self.old pe.0 }
+        requires own { copied_by (copied_memory self.old.desc (held_copies self.old)) (processor_of self.old pe.0).hand ≡ None }
         ensures goes { IfSome result (GoesOn self.old self.new pe) }
         ensures stays { result ≡ None → self.new ≡ self.old }
         ensures hardware { IsHardware self.new }
     {
-        match self.copied_by(pe) {
-            Some(_) => None,
-            None => {
-                let processor = self.processors.at_mut(pe.0 as usize);
-                processor.go_on(&self.memories, &self.layout, &self.desc)
-            }
-        }
+        let processor = self.processors.at_mut(pe.0 as usize);
+        processor.go_on(&self.memories, &self.layout, &self.desc)
     }
 }

@@ -289,6 +289,23 @@ impl Hardware {
         }
     }
 
+    // The same. A plain turn, of which a run mostly consists, goes by a way of its own.
+    #[inline(always)]
+    fn plain_or_own_turn(&mut self, pe: Pe) -> Result<Note, Stop>
+        requires hardware { IsHardware self.old }
+        requires may { MayTurn self.old pe.0 }
+        requires own { copied_by (copied_memory self.old.desc (held_copies self.old)) (processor_of self.old pe.0).hand ≡ None }
+        ensures machine { (o : Outside) → machine_of self.new (outside_of (happens self.old.desc (machine_of self.old o) (Event.Processor pe))) ≡ happens self.old.desc (machine_of self.old o) (Event.Processor pe) }
+        ensures answer { (o : Outside) → result ≡ answer self.old.desc (machine_of self.old o) (Event.Processor pe) }
+        ensures hardware { IsHardware self.new }
+        ensures desc { self.new.desc ≡ self.old.desc }
+    {
+        match self.plain_turn(pe) {
+            Some(pid) => Ok(Note::Ran(pid)),
+            None => self.own_turn(pe),
+        }
+    }
+
     /// A turn of a processor. While a memory is to be copied, one that seeks or runs copies the next unit of it, or waits.
     #[inline(always)]
     pub(crate) fn processor_turn(&mut self, pe: Pe) -> Result<Note, Stop>
@@ -301,7 +318,7 @@ impl Hardware {
     {
         match self.copied_by(pe) {
             Some(me) => Ok(self.copy_or_hold(me)),
-            None => self.own_turn(pe),
+            None => self.plain_or_own_turn(pe),
         }
     }
 }

@@ -12,8 +12,8 @@ use Rattle.seq_machine.proofs.Answering.{on_ok, on_err, answers, left_made, ends
 use Rattle.seq_machine.proofs.EventParts.{io_sent_shown, io_entries_shown, io_ends, may_serve, may_be_checked, made_fits, call_fits}
 use Rattle.seq_machine.proofs.hardware.Hardware.event.Goals as goal
 
-pub processor_event-requires-clause-may : goal.processor_event-requires-clause-may
-processor_event-requires-clause-may g c = may_turn c.args.self.now c.in-Processor.pe.0 c.requires.hardware c.requires.fit c.requires.numbers (rw c.in-Processor.is at c.requires.allowed)
+pub told_turn-requires-clause-may : goal.told_turn-requires-clause-may
+told_turn-requires-clause-may g c = may_turn c.args.self.now c.in-Processor.pe.0 c.requires.hardware c.requires.fit c.requires.numbers (rw c.in-Processor.is at c.requires.allowed)
 
 pub io_turn-requires-clause-serves : goal.io_turn-requires-clause-serves
 io_turn-requires-clause-serves g c = may_serve c.args.self.now.desc (machine_of c.args.self.now no_outside) c.in-Io.io.0 c.requires.hardware.described c.requires.fit (rw c.in-Io.is at c.requires.allowed)
@@ -22,24 +22,24 @@ pub fail-requires-clause-checked : goal.fail-requires-clause-checked
 fail-requires-clause-checked g c = may_be_checked c.args.self.now.desc (machine_of c.args.self.now no_outside) c.requires.hardware.described c.requires.fit
 
 pub returns-in-Processor-clause-machine : goal.returns-in-Processor-clause-machine
-returns-in-Processor-clause-machine g c o is = rw c.in-Processor.is (c.processor_event.ensures.machine o)
+returns-in-Processor-clause-machine g c o is = rw c.in-Processor.is (c.told_turn.ensures.machine o)
 
 pub returns-in-Processor-clause-note : goal.returns-in-Processor-clause-note
-returns-in-Processor-clause-note g c o is = rw c.in-Processor.is (c.processor_event.ensures.note o)
+returns-in-Processor-clause-note g c o is = rw c.in-Processor.is (c.told_turn.ensures.note o)
 
 pub returns-in-Processor-clause-unchecked : goal.returns-in-Processor-clause-unchecked
-returns-in-Processor-clause-unchecked g c o is = rw c.in-Processor.is (c.processor_event.ensures.unchecked o)
+returns-in-Processor-clause-unchecked g c o is = rw c.in-Processor.is (c.told_turn.ensures.unchecked o)
 
 pub returns-in-Processor-clause-stopped : goal.returns-in-Processor-clause-stopped
-returns-in-Processor-clause-stopped g c o is = rw c.in-Processor.is (c.processor_event.ensures.stopped o)
+returns-in-Processor-clause-stopped g c o is = rw c.in-Processor.is (c.told_turn.ensures.stopped o)
 
 pub returns-in-Processor-clause-cause : goal.returns-in-Processor-clause-cause
-returns-in-Processor-clause-cause g c o is = rw c.in-Processor.is (c.processor_event.ensures.cause o _ _)
+returns-in-Processor-clause-cause g c o is = rw c.in-Processor.is (c.told_turn.ensures.cause o _ _)
 
 pub returns-in-Processor-clause-fit : goal.returns-in-Processor-clause-fit
 returns-in-Processor-clause-fit g c =
-    call_fits c.args.self.now c.processor_event.new.self (event.Processor c.in-Processor.pe) c.requires.hardware.described c.requires.fit tt (rw c.in-Processor.is at c.requires.allowed)
-    c.processor_event.result no_outside c.processor_event.ensures.desc (c.processor_event.ensures.unchecked no_outside) (c.processor_event.ensures.machine no_outside)
+    call_fits c.args.self.now c.told_turn.new.self (event.Processor c.in-Processor.pe) c.requires.hardware.described c.requires.fit tt (rw c.in-Processor.is at c.requires.allowed)
+    c.told_turn.result no_outside c.told_turn.ensures.desc (c.told_turn.ensures.unchecked no_outside) (c.told_turn.ensures.machine no_outside)
 
 pub returns-in-Io-clause-machine : goal.returns-in-Io-clause-machine
 returns-in-Io-clause-machine g c o is = rw c.in-Io.is (c.io_turn.ensures.machine o is)

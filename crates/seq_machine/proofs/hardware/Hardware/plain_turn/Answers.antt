@@ -1,35 +1,30 @@
-use Rattle.std.proofs.Common.{◌≡◌, ◌<◌, length, None, arith, refl, sym, ap, ◌∙◌}
+use Rattle.std.proofs.Common.{◌≡◌, ◌<◌, length, arith, refl, sym, ap, ◌∙◌}
 use Rattle.std.specs.Prelude.{slice_set}
 use Rattle.std.proofs.lemmas.Option.{get_or_from_slice_get}
 use Rattle.std.proofs.lemmas.List.{set-get_or}
-use Rattle.seq_turns.specs.Reading.{copied_memory}
-use Rattle.seq_machine.specs.Plain.{processor_of, idle_processor}
-use Rattle.seq_machine.specs.Settling.{held_copies}
-use Rattle.seq_machine.specs.Processors.{copied_by}
-use Rattle.seq_machine.proofs.Returning.{is_unnamed}
+use Rattle.seq_machine.specs.Plain.{idle_processor}
 use Rattle.seq_machine.proofs.PlainTurns.{plain_machine, plain_answer, if_some}
 use Rattle.seq_machine.proofs.hardware.Hardware.plain_turn.Goals as goal
 
-pub returns-in-None-clause-goes : goal.returns-in-None-clause-goes
-returns-in-None-clause-goes c =
+pub returns-clause-goes : goal.returns-clause-goes
+returns-clause-goes c =
     let h = c.args.self.now in
     let p = c.args.pe.0 in
     let few : p < length h.processors = omega (arith, c.requires.hardware.processors, c.requires.may.processor) in
     let scans : p < length h.scan = omega (arith, c.requires.hardware.scan, c.requires.may.processor) in
     let numbers : p < length h.incarnations = omega (arith, c.requires.hardware.incarnations, c.requires.may.processor) in
-    let none = is_unnamed (copied_by (copied_memory h.desc (held_copies h)) (processor_of h p).hand) (sym c.in-None.is ∙ c.copied_by.ensures) in
     let z = c.at_mut-processor.result.now in
     let is = c.at_mut-processor.ensures.value in
     if_some c.go_on.result
     (λ pid turn. record {
-      machine = λ o. plain_machine h o p few scans numbers none z c.go_on.new.self is pid turn;
-      answer = λ o. plain_answer h o p few scans numbers none z c.go_on.new.self is pid turn;
+      machine = λ o. plain_machine h o p few scans numbers c.requires.own z c.go_on.new.self is pid turn;
+      answer = λ o. plain_answer h o p few scans numbers c.requires.own z c.go_on.new.self is pid turn;
       desc = refl;
     })
     c.go_on.ensures.turn
 
-pub returns-in-None-clause-stays : goal.returns-in-None-clause-stays
-returns-in-None-clause-stays c stayed =
+pub returns-clause-stays : goal.returns-clause-stays
+returns-clause-stays c stayed =
     let h = c.args.self.now in
     let p = c.args.pe.0 in
     let is = get_or_from_slice_get h.processors p c.at_mut-processor.result.now (idle_processor h.desc) c.at_mut-processor.ensures.value in

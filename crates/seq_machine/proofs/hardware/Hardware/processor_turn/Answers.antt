@@ -46,7 +46,7 @@ returns-in-Some-clause-answer c o =
     let goes : stops (turn h.desc m p hand) ≡ false = ap stops table ∙ copying_goes_on h.desc m p i (someone_amid h.desc m) in
     λ j. answer_to (sym same j) h.desc m (if sym goes j then Some (element.Processor c.args.pe) else None)
 
-pub own_turn-requires-clause-own : goal.own_turn-requires-clause-own
-own_turn-requires-clause-own c =
+pub plain_or_own_turn-requires-clause-own : goal.plain_or_own_turn-requires-clause-own
+plain_or_own_turn-requires-clause-own c =
     let h = c.args.self.now in
     is_unnamed (copied_by (copied_memory h.desc (held_copies h)) (processor_of h c.args.pe.0).hand) (sym c.in-None.is ∙ c.copied_by.ensures)
