@@ -1,5 +1,5 @@
 -- What a turn of the pair was, and what the step comes to, by what the code keeps of the turn.
-use Rattle.std.proofs.Common.{◌≡◌, ◌⊎◌, inl, inr, ℕ, Bool, true, false, refl, Some, None, ap, ◌∙◌}
+use Rattle.std.proofs.Common.{◌≡◌, ◌⊎◌, inl, inr, ℕ, Bool, true, false, refl, Some, None, ap, sym, ◌∙◌}
 use Rattle.std.proofs.lemmas.Bool.{true≢false}
 use Rattle.seq_words.specs.declared.description.MachineDesc.{MachineDesc}
 use Rattle.seq_rv32.specs.declared.effects.Effect.TheVariants as effect
@@ -14,6 +14,7 @@ use Rattle.seq_kernel.specs.declared.steps.Kind.{Kind}
 use Rattle.seq_kernel.specs.declared.steps.Kind.TheVariants as kind
 use Rattle.seq_kernel.specs.Views.{stored}
 use Rattle.seq_kernel.specs.Turns.{counted}
+use Rattle.seq_kernel.specs.Calls.{call_of}
 use Rattle.seq_kernel.specs.Steps.{kind_of, is_plain, after_turn}
 
 -- a plain turn is a step, after which the process goes on
@@ -41,6 +42,14 @@ call_agreed (turn.Agreed effect.Call) k = refl
 call_agreed (turn.Agreed (effect.Trap code)) k = absurd (cc)
 call_agreed (turn.Agreed effect.Full) k = absurd (cc)
 call_agreed turn.Diverged k = absurd (cc)
+
+-- a call is made over what stood before, since the turn changed nothing
+pub called : (d : MachineDesc) (p : Copies) (r after : Running) (c left : Changes) (t : Turn) → t ≡ turn.Agreed effect.Call → after ≡ record r { pair = pair_after r.pair t } → left ≡ port_after (stored d r.pid.0 r.held p) c t →
+    (after ≡ r) × (call_of d p after left ≡ after_turn d p r c t)
+called d p r after c left t calls is_after is_left =
+    let same : after ≡ r = is_after ∙ ap (λ (x : Turn). record r { pair = pair_after r.pair x }) calls in
+    let same_left : left ≡ c = is_left ∙ ap (λ (x : Turn). port_after (stored d r.pid.0 r.held p) c x) calls in
+    (same, (λ i. call_of d p (same i) (same_left i)) ∙ sym (ap (after_turn d p r c) calls))
 
 abbrev pub is_made : Kind → Bool
 is_made kind.Made = true
